@@ -1,6 +1,6 @@
 -- Actors on a bench: they sit down with their passes, stand still while another one acts, and leave; and a thread with its keeper on the bench of both.
-use Rattle.std.proofs.Common.{arith, ◌≡◌, ◌≢◌, ◌==◌, ℕ, Bool, true, false, if◌then◌else◌, inl, inr, List, [], ◌∷◌, ◌++◌, refl, ap, sym, ◌∙◌, subst, append-nil}
-use Rattle.std.proofs.{Common.{eq-eqb, ne_eqb, true≢false, ◌+◌, Option, Some, None, eqb-true, ⊎_elim, ◌⊎◌}, lemmas.{Option.same_Some, Bool.cases_eq}}
+use Rattle.std.proofs.Common.{arith, ◌≡◌, ◌≢◌, ℕ, Bool, true, if◌then◌else◌, inl, inr, List, [], ◌∷◌, ◌++◌, refl, ap, sym, ◌∙◌, subst, append-nil, eq-eqb}
+use Rattle.std.proofs.{Common.{ne_eqb, true≢false, ◌+◌, Option, Some, None, ⊎_elim, ◌⊎◌}, lemmas.{Option.same_Some, Bool.cases_eq}}
 use Rattle.pas_steps.specs.{Calls.Calls, Noted.room_of_notes, Desks.{triple, Standing, triples}, Lists.{Whole, part}, Views.View, declared.step.Made.Made}
 use Rattle.pas_steps.proofs.Parts.{part_of_others, part_of_own}
 use Rattle.pas_profile.specs.declared.profile.Profile.{Profile}
@@ -10,16 +10,14 @@ use Rattle.pas_shared.specs.Benches.{rows_on, first_row, row_on, seat_of_member,
 use Rattle.pas_shared.specs.{Benches.{standing_on, empty_row, home_of}, Ledgers.part_of, Passes.{seat_of, view_of, IsPassOf}, declared.bench.Bench.Bench}
 use Rattle.pas_shared.specs.declared.{bench.Member.Member, pass.SharedPass.SharedPass, region.SharedRegion.SharedRegion, rule.{Entry.Entry, Row.Row}}
 use Rattle.pas_shared.{specs.declared.bench_desk.BenchDesk.BenchDesk, proofs.{Benching.{among_picked, stands_first, row_since}, Ruling.part_both}}
-use Rattle.pas_acts.specs.{Works.{Later, Sits, Keeps, ThreadAt}, Keepers.{keeper_has, KeeperAt, LaterKept, StandsStill, Keeping, OneKeeper, KeeperTries}}
-use Rattle.pas_acts.specs.{Keepers.StandsAt, Pairs.{KeeperWaits, PairWorks, PairAt}}
+use Rattle.pas_acts.specs.{Works.{Later, Sits, Keeps, ThreadAt}, Keepers.{keeper_has, KeeperAt, LaterKept, StandsStill, Keeping, KeeperTries, StandsAt}}
+use Rattle.pas_acts.specs.Pairs.{KeeperWaits, PairWorks, PairAt}
 use Rattle.pas_threads.specs.{Left.{KeepsOrder, keeper_actors, pair_in, HasLeft, IsSeated, standing_beside}, Hands.{standing_of_pass, HasPass, Did, kept_by}}
 use Rattle.pas_threads.specs.{declared.{keeper.{Seated.Seated, Keeper.Keeper}, workers.Worker.Worker}, Pairs.{IsKeeperOf, kept_by_worker, kept_seated}}
 use Rattle.pas_threads.specs.{Pairs.MayDoPhase, Seats.{keeper_parts, seated_actors, PairSits, PairRose, IsAnother, KeeperSits, rows_without_keeper}}
-use Rattle.pas_threads.specs.{Seats.{IsSameKeeper, SitsBeside, KeeperMayLeave, IsPassOfMember, HasRisen}, Still.stays_beside}
-use Rattle.pas_guard.specs.declared.book.GuardBook.{GuardBook}
+use Rattle.pas_threads.specs.{Seats.{IsSameKeeper, SitsBeside, KeeperMayLeave, IsPassOfMember, HasRisen, PairMayRise}, Still.stays_beside}
 use Rattle.pas_answers.{specs.{Answers.Progress, Guarding.after_trying}, proofs.Reached.goes_on}
 use Rattle.pas_trace.specs.Acts.{Act, own_acts}
-use Rattle.pas_records.specs.Rooms.{Records}
 
 -- ---- what rows say of a list
 -- of each of its actors the list has what the row says
@@ -173,15 +171,6 @@ tries_beside may t = record {
   paid = t.paid;
 }
 
--- its thread stands still meanwhile
-thread_still : {region now b c who : _} (m n : Member) {f k r block book book' out out' later p : _}
-    → (tries : KeeperTries f k r block (keeper_has (standing_on b m) book out) (keeper_has (standing_on c n) book' out') later p)
-    → home_of now (row_on c) ≡ home_of region (row_on b) → IsBenchOf now c → rows_on c ≡ row_on c ∷ [] → MaySitOn region b who
-    → StandsAt (standing_on b who) p.list → who.actor ≢ k → StandsAt (standing_beside now c who) (after_trying p k tries.tried).list
-thread_still {region} {now} {b} {c} {who} m n {k = k} {p = p} tries home of one may stood other =
-    (stays_beside region now b c who p.list (after_trying p k tries.tried).list home of one tries.stands.sits.stood.1).stands (may, stood.0, stood.1)
-    (ap (part who.actor) tries.moves.list_is ∙ part_of_others who.actor k tries.moves.steps p.list (λ same. other (sym same)))
-
 -- ---- the desk that the thread lends
 -- who has a desk may sit there
 abbrev pub may_sit : (desk : BenchDesk) → MaySitOn desk.region.now desk.place.bench desk.place.member
@@ -192,8 +181,7 @@ pub lent_at : {f k later p : _} (desk lent : BenchDesk) (seated : Seated) → le
     → KeeperAt f k (keeper_has (standing_beside desk.region.now desk.place.bench seated.member) seated.book seated.out) later p
     → KeeperAt f k (keeper_has (standing_on lent.place.bench lent.place.member) seated.book seated.out) later p
 lent_at {f} {k} {later} {p} desk lent seated bench member at =
-    subst (λ (z : Bench × Member). KeeperAt f k (keeper_has (standing_on z.0 z.1) seated.book seated.out) later p) (λ i. (sym bench i, sym member i))
-    (record { sits = sits_as refl (λ stood. (stood.1, stood.2)) at.sits; book = at.book; spare = at.spare; places = at.places })
+    rw (bench, member) record { sits = sits_as refl (λ stood. (stood.1, stood.2)) at.sits; book = at.book; spare = at.spare; places = at.places }
 
 module _ {f k r block later p book out : _} (desk lent after : BenchDesk) (seated : Seated) (region : lent.region.now ≡ desk.region.now)
     (bench : lent.place.bench ≡ desk.place.bench) (member : lent.place.member ≡ seated.member)
@@ -203,9 +191,13 @@ module _ {f k r block later p book out : _} (desk lent after : BenchDesk) (seate
     (stood : StandsAt (standing_on desk.place.bench desk.place.member) p.list) (other : desk.place.member.actor ≢ k) where
   -- the thread may sit down again
   pub thread_after : StandsAt (standing_beside after.region.now after.place.bench desk.place.member) (after_trying p k tries.tried).list
-  thread_after = thread_still lent.place.member after.place.member tries home after.of after.place.one
-      (subst (λ (z : SharedRegion × Bench). MaySitOn z.0 z.1 desk.place.member) (λ i. (sym region i, sym bench i)) (may_sit desk))
-      (subst (λ (b : Bench). StandsAt (standing_on b desk.place.member) p.list) (sym bench) stood) other
+  thread_after =
+      let who = desk.place.member.actor in
+      let may : MaySitOn lent.region.now lent.place.bench desk.place.member = rw (region, bench) (may_sit desk) in
+      let at : StandsAt (standing_on lent.place.bench desk.place.member) p.list = rw bench stood in
+      let same = ap (part who) tries.moves.list_is ∙ part_of_others who k tries.moves.steps p.list (λ is. other (sym is)) in
+      (stays_beside lent.region.now after.region.now lent.place.bench after.place.bench desk.place.member p.list (after_trying p k tries.tried).list home
+      after.of after.place.one tries.stands.sits.stood.1).stands (may, at.0, at.1) same
 
   -- .. and once it does, the keeper stands beside it as before
   pub tried_at : (back : BenchDesk) (risen : Member) → back.region.now ≡ after.region.now → back.place.bench ≡ after.place.bench
@@ -213,25 +205,20 @@ module _ {f k r block later p book out : _} (desk lent after : BenchDesk) (seate
       → (t : KeeperTries f k r block (keeper_has (standing_beside desk.region.now desk.place.bench seated.member) seated.book seated.out)
       (keeper_has (standing_beside back.region.now back.place.bench risen) book out) later p)
       × StandsStill (standing_on desk.place.bench desk.place.member) (standing_on back.place.bench back.place.member) p.list (after_trying p k t.tried).list
-  tried_at back risen same there again gone = subst (λ (z : SharedRegion × Bench × Member × SharedRegion × Bench × Member × Member).
-      (t : KeeperTries f k r block (keeper_has (standing_beside z.0 z.1 z.2) seated.book seated.out) (keeper_has (standing_beside z.3 z.4 z.5) book out) later p)
-      × StandsStill (standing_on desk.place.bench desk.place.member) (standing_on z.4 z.6) p.list (after_trying p k t.tried).list)
-      (λ i. (region i, bench i, member i, sym same i, sym there i, sym gone i, sym again i))
+  tried_at back risen same there again gone = rw (same, there, again, gone, sym region, sym bench, sym member)
       (tries_beside (may_sit after) tries, record { seat_is = refl; stands = λ stands parts. (thread_after.1, thread_after.2) })
 
 -- ---- both sit down
 seated_beside : (region : SharedRegion) (keeper : Option Keeper) (seated : Option Seated) (b now : Bench) (r : Row) (rs : List Row) → IsSameKeeper keeper seated
     → IsKeeperOf region keeper → rows_on b ≡ r ∷ (rows_of (keeper_parts keeper) ++ rs)
     → IsBenchOf region now → HasLooked (rows_on b) (rows_on now) → SitsBeside region now keeper seated
-seated_beside region None None b now r rs same of rows bench looked = tt
-seated_beside region None (Some seated) b now r rs same of rows bench looked = same
-seated_beside region (Some keeper) None b now r rs same of rows bench looked = same
 seated_beside region (Some keeper) (Some seated) b now r rs same of rows bench looked = (
   sat b now keeper.pass seated.member of same.0 bench looked
       (subst (λ qs. HasRow qs keeper.pass.place.actor (view_of keeper.pass)) (sym rows) (inr (has_seat keeper.pass rs))),
   same.1,
   same.2,
 )
+seated_beside region _ _ b now r rs same of rows bench looked = same
 
 kept_actors : (keeper : Option Keeper) (seated : Option Seated) → IsSameKeeper keeper seated
     → all_actors (rows_of (keeper_parts keeper) ++ (empty_row ∷ [])) ≡ seated_actors seated
@@ -244,11 +231,6 @@ pub pair_sat : {region : _} (pass : SharedPass) (keeper : Option Keeper) (member
     → IsSeated region now pass member → IsBenchOf region now → HasLooked (rows_on b) (rows_on now) → PairSits region pass keeper now member seated
 pair_sat {region} pass keeper member seated b now of kept same rows thread bench looked = search (arith, seated_beside, kept_actors)
 
--- The row of a thread's pass, in front of others, says what the thread made.
-pub has_thread : (pass : SharedPass) (b : Bench) (rs : List Row) → rows_on b ≡ rows_of (part_of pass ∷ []) ++ rs
-    → HasRow (rows_on b) pass.place.actor (view_of pass)
-has_thread pass b rs rows = subst (λ (qs : List Row). HasRow qs pass.place.actor (view_of pass)) (sym rows) (has_seat pass rs)
-
 -- ---- beside each list that tells of both what they made
 -- nobody made a step since they sit in one row
 base_part : (r : Row) (k : ℕ) → r.made ≡ [] → part k (steps_of r.base) ≡ made_in r k
@@ -256,17 +238,10 @@ base_part r k none = sym (ap (λ es. part k (steps_of es ++ steps_of r.base)) no
 
 of_either : (a j : ℕ) (seated : Option Seated) (P : ℕ → Type 0) → among (a ∷ seated_actors seated) j ≡ true → P a
     → ((s : Seated) → seated ≡ Some s → P s.member.actor) → P j
-of_either a j None P its one other = at (a == j) refl
-  where
-    at : (b : Bool) → (a == j) ≡ b → P j
-    at true e = subst P (eqb-true a j e) one
-    at false e = absurd (true≢false (sym its ∙ ap (λ (b : Bool). if b then true else false) e))
-of_either a j (Some s) P its one other = at (a == j) refl (s.member.actor == j) refl
-  where
-    at : (b : Bool) → (a == j) ≡ b → (c : Bool) → (s.member.actor == j) ≡ c → P j
-    at true e c d = subst P (eqb-true a j e) one
-    at false e true d = subst P (eqb-true s.member.actor j d) (other s refl)
-    at false e false d = absurd (true≢false (cc))
+of_either a j None P its one other = ⊎_elim (λ is. subst P is one) (λ bad. absurd (true≢false (sym bad))) (among_cases a j [] its)
+of_either a j (Some s) P its one other = ⊎_elim (λ is. subst P is one)
+    (λ more. ⊎_elim (λ is. subst P is (other s refl)) (λ bad. absurd (true≢false (sym bad))) (among_cases s.member.actor j [] more))
+    (among_cases a j (s.member.actor ∷ []) its)
 
 module _ {region : SharedRegion} {pass : SharedPass} {keeper : Option Keeper} {bench : Bench} {member : Member} {seated : Option Seated}
     (sits : PairSits region pass keeper bench member seated)
@@ -305,14 +280,10 @@ risen_as : (region : SharedRegion) (r s : Row) (seated : Option Seated) (keeper 
     → HasRisen region r seated keeper
 risen_as region r s a b same risen = search arith
 
-abbrev row_with : List ℕ → List Entry → Row
-row_with ns base = record { actors = ns; made = []; base = base }
-
-module _ (region : SharedRegion) (bench looked : Bench) (member : Member) (seated : Option Seated) (thread : MaySitOn region bench member)
-    (kept : KeeperSits region bench seated) (apart : IsAnother member.actor seated)
+module _ {region : SharedRegion} {bench : Bench} (looked : Bench) {member : Member} {seated : Option Seated} (may : PairMayRise region bench member seated)
     (look : HasLooked (rows_on bench) (rows_on looked)) where
   one_row : AreRowsOf (row_on bench ∷ []) (steps_of look.base)
-  one_row = subst (λ (rs : List Row). AreRowsOf rs (steps_of look.base)) thread.one look.rows
+  one_row = subst (λ (rs : List Row). AreRowsOf rs (steps_of look.base)) may.thread.one look.rows
 
   -- The keeper may leave the bench first.
   pub may_leave_first : KeeperMayLeave region (first_row (rows_on looked)) seated
@@ -324,19 +295,18 @@ module _ (region : SharedRegion) (bench looked : Bench) (member : Member) (seate
 
   -- The thread still sits in the row after its keeper left.
   pub sits_then : {rs : List Row} → rs ≡ rows_without_keeper seated (rows_on looked) → SitsInRow (first_row rs) member
-  sits_then is = subst (λ rs. SitsInRow (first_row rs) member) (sym is) (sits_without seated member (looked_fresh look) apart (still_sits bench looked member thread.one look thread.sits))
+  sits_then is = rw is (sits_without seated member (looked_fresh look) may.apart (still_sits bench looked member may.thread.one look may.thread.sits))
 
   -- A pair rose once its keeper and then its thread left the bench: both have passes with what they made.
-  pub pair_rose : (gone left : Bench) {keeper : Option Keeper} {pass : SharedPass} → (row_on bench).actors ≡ member.actor ∷ seated_actors seated
-      → rows_on gone ≡ rows_without_keeper seated (rows_on looked)
+  pub pair_rose : (gone left : Bench) {keeper : Option Keeper} {pass : SharedPass} → rows_on gone ≡ rows_without_keeper seated (rows_on looked)
       → HasRisen region (first_row (rows_on looked)) seated keeper → IsPassOfMember region (first_row (rows_on gone)) member pass → IsBenchOf region left
       → rows_on left ≡ rows_of_only (isnt (only_this member.actor)) (rows_on gone)
       → PairRose region bench member seated left pass keeper
-  pair_rose gone left actors gone_is risen own of left_is = search (arith, made_without, looked_fresh, looked_made, risen_as, one_row)
+  pair_rose gone left gone_is risen own of left_is = search (arith, made_without, looked_fresh, looked_made, risen_as, one_row)
     where
       -- At the bench sit the thread and its keeper alone.
       all : all_actors (rows_on bench) ≡ member.actor ∷ seated_actors seated
-      all = ap all_actors thread.one ∙ (append-nil (row_on bench).actors ∙ actors)
+      all = ap all_actors may.thread.one ∙ (append-nil (row_on bench).actors ∙ may.actors)
 
 -- ---- after their acts
 keeper_sits : (f : Profile) (j : ℕ) (more : LaterKept) (p : Progress) (region : SharedRegion) (b : Bench) (s : Option Seated)
@@ -380,26 +350,14 @@ module _ (region was now : SharedRegion) (b c : Bench) (pass : SharedPass) (memb
     search (arith, thread_back) fits 400,
     refl,
   )
-  works_back (Some o) (Some s) (Some t) (Some keeper) sits risen w = subst (λ (z : GuardBook × Records × GuardBook × Records).
-      (v : PairWorks f k j acts [] σ (standing_of_pass pass) has has' (OneKeeper (keeper_has (standing_of_pass o.pass) z.0 z.1))
-      (OneKeeper (keeper_has (standing_of_pass keeper.pass) z.2 z.3)) later more p) × (v.reached ≡ w.reached))
-      (λ i. (sits.1 i, sits.2 i, sym risen.1 i, sym risen.2 i)) (
-        search (arith, thread_back, keeper_back) fits 400,
-        refl,
-      )
-  works_back None None (Some t) keeper sits risen w = absurd w.kept_pushed
-  works_back (Some o) (Some s) None keeper sits risen w = absurd w.kept_pushed
-  works_back None None None (Some keeper) sits risen w = absurd risen
-  works_back (Some o) (Some s) (Some t) None sits risen w = absurd risen
-  works_back None (Some s) t keeper sits risen w = absurd sits
-  works_back (Some o) None t keeper sits risen w = absurd sits
+  works_back (Some o) (Some s) (Some t) (Some keeper) sits risen w = rw (sym sits.1, sym sits.2, risen.1, risen.2) (
+    search (arith, thread_back, keeper_back) fits 400,
+    refl,
+  )
+  -- Nobody else is there before, on the bench or after it.
+  works_back _ _ _ _ sits risen w = search arith
 
 -- ---- a worker's operations of a phase
-pub sat_at : {region pass keeper bench member seated : _} (desk : BenchDesk) → desk.region.now ≡ region → desk.place.bench ≡ bench → desk.place.member ≡ member
-    → PairSits region pass keeper bench member seated → PairSits desk.region.now pass keeper desk.place.bench desk.place.member seated
-sat_at {pass = pass} {keeper} {seated = seated} desk region bench member sits =
-    subst (λ (z : SharedRegion × Bench × Member). PairSits z.0 pass keeper z.1 z.2 seated) (λ i. (sym region i, sym bench i, sym member i)) sits
-
 module _ {region book : _} {worker : Worker} {ops pass keeper seated : _} (desk : BenchDesk) (is : worker.pass ≡ Some pass) (taken : keeper ≡ worker.keeper)
     (sits : PairSits desk.region.now pass keeper desk.place.bench desk.place.member seated) (m : MayDoPhase region book ops worker) where
   abbrev f : Profile
@@ -453,20 +411,18 @@ module _ {region book : _} {worker : Worker} {ops pass keeper seated : _} (desk 
     mine : Works k (standing_on bench member) (standing_on after.place.bench after.place.member) has kept_before kept_after
     mine = subst (λ n. Works n (standing_on bench member) (standing_on after.place.bench after.place.member) has kept_before kept_after) here.thread.sits.actor works
 
-    -- After its acts the keeper still sits beside its thread.
-    pub keeper_may : KeeperSits after.region.now after.place.bench there
-    keeper_may = keeper_sits f other m.more mine.reached after.region.now after.place.bench there mine.stands.waits
-
-    -- After its acts the keeper is still another actor than its thread.
-    pub keeper_other : IsAnother after.place.member.actor there
-    keeper_other = keeper_apart f other k m.more mine.reached after.region.now after.place.bench after.place.member.actor there mine.stands.thread.sits.actor mine.stands.apart mine.stands.waits
-
     same_there : seated_actors there ≡ seated_actors seated
     same_there = search (arith, mine.kept_pushed, here.waits, mine.stands.waits)
 
-    -- After its acts the row is still that of the thread and its keeper.
-    pub actors_are : (row_on after.place.bench).actors ≡ after.place.member.actor ∷ seated_actors there
-    actors_are = search (arith, same_there)
+    -- After its acts both still sit in one row.
+    pub pair_may : PairMayRise after.region.now after.place.bench after.place.member there
+    pair_may = record {
+      thread = may_sit after;
+      keeper = keeper_sits f other m.more mine.reached after.region.now after.place.bench there mine.stands.waits;
+      apart = keeper_apart f other k m.more mine.reached after.region.now after.place.bench after.place.member.actor there
+          mine.stands.thread.sits.actor mine.stands.apart mine.stands.waits;
+      actors = search (arith, same_there);
+    }
 
     -- it did them, and its bench is left
     module _ (left : Bench) (own : SharedPass) (risen : Option Keeper) (rose : PairRose region after.place.bench after.place.member there left own risen) where
@@ -484,7 +440,7 @@ module _ {region book : _} {worker : Worker} {ops pass keeper seated : _} (desk 
       -- The bench's row names the thread and its keeper.
       pair : (row_on after.place.bench).actors ≡ k ∷ keeper_actors other worker.keeper
       pair =
-          search (arith, keeper_is, actors_are, same_there)
+          search (arith, keeper_is, pair_may.actors, same_there)
 
       parts : (n : ℕ) → among (row_on after.place.bench).actors n ≡ true → part n p.list ≡ part n (steps_of (row_on after.place.bench).base)
       parts = search (arith, both_parts)

@@ -1,25 +1,26 @@
 -- What the actors of all workers said in a phase, or at the close: in which order it is written, that it is paid for, and how the workers rest once it is gathered.
 use Rattle.std.proofs.Common.{◌≡◌, ℕ, suc, ◌+◌, ◌<◌, ◌≤◌, List, [], ◌++◌, length, get_or, ap, sym, ◌∙◌, arith, append_assoc, length-append, ◌∷◌, Option, refl}
-use Rattle.std.proofs.{Common.{subst, zero, ◌⊎◌, inl, inr, map, drop, take, slice_index_or, drop_of_length-le, append-nil}, lemmas.List.drop_more}
+use Rattle.std.proofs.Common.{subst, zero, ◌⊎◌, inl, inr, map, drop, take, slice_index_or, drop_of_length-le, append-nil, is_some, true, false}
+use Rattle.std.proofs.lemmas.List.{drop_more}
 use Rattle.pas_trace.specs.{EveryPlan.{own_records, records_of_ops, all_ops}, Plans.ops_of, Acts.{MarksPhase, MarksClose, Act, phase_acts, close_acts, acts_of}}
 use Rattle.pas_trace.{specs.declared.plan.{Op.Op, Phase.Phase}, proofs.EveryPlan.{own_both, records_both}}
 use Rattle.pas_cache.specs.Caches.{Cached}
 use Rattle.pas_steps.specs.Lists.{part, Whole}
 use Rattle.pas_shared.specs.{declared.region.SharedRegion.SharedRegion, Ruled.IsEarlier}
-use Rattle.pas_answers.specs.{Answers.{Progress, with_records}, Calls.owed_events, Reaching.Reaches, Replays.at_start, Phases.AreInPhases, Ways.records_by}
-use Rattle.pas_answers.specs.{Ways.{by_actors, OnThreads, AreSpoken, arranged}, Stages.{Stage, one_by_one, phase_stages, stages_of, stages_from}}
-use Rattle.pas_answers.proofs.Reached.{reach_both}
+use Rattle.pas_answers.specs.{Answers.{Progress, with_records}, Calls.owed_events, Reaching.{Reaches, Advances}, Replays.at_start, Phases.{AreInPhases, AtMark}}
+use Rattle.pas_answers.specs.{Phases.StandFirst, Ways.{records_by, by_actors, OnThreads, AreSpoken, arranged}, Stages.{Stage, one_by_one, phase_stages}}
+use Rattle.pas_answers.{specs.Stages.{stages_of, stages_from, stage, itself}, proofs.Reached.reach_both}
 use Rattle.pas_acts.{specs.{NameBooks.{room_for, NamesAt, requests_in}, declared.names.NameBook.NameBook}, proofs.{AtDesk.sits_still, ActsLeft.acts_left}}
 use Rattle.pas_acts.proofs.{ActsLeft.{close_left, first_phase, other_phase}, PlanFacts.are_arranged}
-use Rattle.pas_threads.specs.{Pairs.{owed_by_keepers, AreGuarded, owed_kept}, Closing.{ThreadTold, KeeperTold, ClosedFirst}, Sessions.{Session, planned}}
-use Rattle.pas_threads.specs.Sessions.{owed_by, AreMarked, AreWritten, WorkerRests, WorkersRest, closing_acts, ScavengerRests, TeamAt, HasPlaces, HasRoom}
-use Rattle.pas_threads.specs.{Sessions.{PhaseAt, PhaseDone, HasReplayed, IsOfActors, StandSo, WentBy, CloseDone}, Turns.{said_own, said_kept, said_by_all}}
-use Rattle.pas_threads.specs.{Turns.{said_by_keepers, TookNoPart}, declared.{workers.Worker.Worker, keeper.Keeper.Keeper, phases.Team.Team}}
-use Rattle.pas_threads.{specs.declared.scavenger.Scavenger.Scavenger, proofs.TakingTurns.{IsCleared, rests_clear, WereGathered, cleared_silent, same_rests}}
-use Rattle.pas_threads.proofs.{ReadyPhases.{said_in_order, kept_in_order, kept_few, by_all, owed_less, kept_less, own_by, own_all, all_paid}, Keepers.AreAlike}
-use Rattle.pas_threads.proofs.Keepers.{alike_pushed, alike_said, guarded_alike, said_then, waits_gathered, of_gathered, silent_gathered, kept_still, keeper_is}
-use Rattle.pas_threads.proofs.{Keepers.{owed_still, low_gathered, most_keepers}, Closing.all_acts, Dealt.some_item, Staging.{went_both, went_mark, in_both}}
-use Rattle.pas_threads.proofs.Staging.{unmarked, phase_unmarked, close_unmarked, earlier_both, stand_first}
+use Rattle.pas_threads.specs.{Pairs.{AreGuarded, owed_kept, IsLow}, Closing.{ThreadTold, KeeperTold, ClosedFirst}, Sessions.{Session, planned, owed_by}}
+use Rattle.pas_threads.specs.Sessions.{AreMarked, AreWritten, WorkerRests, WorkersRest, closing_acts, ScavengerRests, TeamAt, HasPlaces, HasRoom, PhaseDone}
+use Rattle.pas_threads.specs.{Sessions.{HasReplayed, IsOfActors, StandSo, WentBy, CloseDone}, Turns.{said_own, said_kept, said_by_all, said_by_keepers}}
+use Rattle.pas_threads.specs.{Turns.{TookNoPart, WereGathered}, declared.{workers.Worker.Worker, keeper.Keeper.Keeper, phases.Team.Team}}
+use Rattle.pas_threads.{specs.declared.scavenger.Scavenger.Scavenger, proofs.TakingTurns.{IsCleared, rests_clear, cleared_silent, same_rests}}
+use Rattle.pas_threads.proofs.{ReadyPhases.{said_in_order, kept_in_order, kept_few, by_all, owed_less, own_by, own_all, all_paid}, Keepers.alike_pushed}
+use Rattle.pas_threads.proofs.Keepers.{alike_said, guarded_alike, said_then, waits_gathered, of_gathered, silent_gathered, kept_still, keeper_is, owed_still}
+use Rattle.pas_threads.proofs.{Keepers.{low_gathered, none_there}, Closing.all_acts, Dealt.some_item, Staging.{went_both, went_mark, in_both, unmarked}}
+use Rattle.pas_threads.proofs.Staging.{phase_unmarked, close_unmarked, earlier_both, stand_first}
 use Rattle.pas_records.specs.{Rooms.{records_in, room_of, Records}, declared.record.Record.Record}
 use Rattle.pas_profile.specs.declared.profile.Profile.{Profile}
 
@@ -35,8 +36,7 @@ pub record AllTold (region : SharedRegion) (s : Session) (ops left : List Op) (s
   pub spoken : AreSpoken said
   pub records_are : q.records ≡ p.records ++ said
   pub paid : length (records_by 0 said) + length (by_actors 1 s.threads said) + length (by_actors (s.threads + 1) s.threads said)
-      + (owed_by s.profile q s.threads + owed_by_keepers s.profile s.threads owing q s.threads)
-      ≤ owed_by s.profile p s.threads + owed_by_keepers s.profile s.threads old p s.threads + records_of_ops (planned s) ops
+      + owed_by s owing q s.threads ≤ owed_by s old p s.threads + records_of_ops (planned s) ops
 
 module _ {region s ops left said old new owing p q : _} (x : AllTold region s ops left said old new owing p q) where
   -- Each thread's records are those that it said, and each keeper's.
@@ -50,7 +50,7 @@ module _ {region s ops left said old new owing p q : _} (x : AllTold region s op
   own_said = search (arith, said_in_order, own_one) fits 400
 
   -- A worker has a keeper just where it had one.
-  alike : (i : ℕ) (d : Worker) → i < length old → AreAlike (get_or old i d).keeper (get_or new i d).keeper
+  alike : (i : ℕ) (d : Worker) → i < length old → is_some (get_or new i d).keeper ≡ is_some (get_or old i d).keeper
   alike i d lt = alike_pushed (s.threads + suc i) said (get_or old i d).keeper (get_or new i d).keeper (x.keepers i d lt).out
 
   guarded : AreGuarded s.keepers new
@@ -66,7 +66,7 @@ module _ {region s ops left said old new owing p q : _} (x : AllTold region s op
   -- ---- the records
   -- there is room for all that, behind what the scavenger said
   module _ (marks : ℕ) (before out : Records) (added : records_in out ≡ records_in before ++ records_by 0 said) (same : room_of out ≡ room_of before)
-      (room : length (records_in before) + (owed_by s.profile p s.threads + owed_by_keepers s.profile s.threads old p s.threads + records_of_ops (planned s) (ops ++ left) + marks) ≤ room_of before) where
+      (room : length (records_in before) + (owed_by s old p s.threads + records_of_ops (planned s) (ops ++ left) + marks) ≤ room_of before) where
     spent : length (records_in out) ≡ length (records_in before) + length (records_by 0 said)
     spent = ap length added ∙ length-append (records_in before) (records_by 0 said)
 
@@ -76,9 +76,7 @@ module _ {region s ops left said old new owing p q : _} (x : AllTold region s op
 
     -- .. and then for what is owed, and the operations and marks that are left
     pub room_left : (out' : Records) → records_in out' ≡ records_in out ++ (said_by_all new ++ said_by_keepers new) → room_of out' ≡ room_of out
-        → length (records_in out') +
-        (owed_by s.profile q s.threads + owed_by_keepers s.profile s.threads owing q s.threads + records_of_ops (planned s) left + marks)
-        ≤ room_of out'
+        → length (records_in out') + (owed_by s owing q s.threads + records_of_ops (planned s) left + marks) ≤ room_of out'
     room_left out' pushed size =
         let now = ap length pushed ∙ length-append (records_in out) (said_by_all new ++ said_by_keepers new) in
         let sum = length-append (said_by_all new) (said_by_keepers new) in
@@ -96,12 +94,8 @@ module _ {region s ops left said old new owing p q : _} (x : AllTold region s op
     spoken = x.spoken;
     records_are = x.records_are;
     written_are =
-        let own = records_by 0 said in
-        pushed ∙ ap (λ (rs : List Record). rs ++ (said_by_all new ++ said_by_keepers new)) added
-        ∙ append_assoc before own (said_by_all new ++ said_by_keepers new)
-        ∙ ap (λ (rs : List Record). before ++ (own ++ (rs ++ said_by_keepers new))) own_said
-        ∙ ap (λ (rs : List Record). before ++ (own ++ (by_actors 1 s.threads said ++ rs))) kept_said
-        ∙ ap (λ (rs : List Record). before ++ rs) (sym (by_all s.threads s.keepers s.profile.threads said fits x.silent));
+        let all = by_all s.threads s.keepers s.profile.threads said fits x.silent in
+        cc (pushed, added, append_assoc before (records_by 0 said) (said_by_all new ++ said_by_keepers new), own_said, kept_said, all);
   }
 
   -- ---- the workers, once that is gathered and their requests were taken over
@@ -164,12 +158,7 @@ room_after_mark : (s : Session) (phases : List (List Op)) (marks : ℕ) (workers
     → records_in out' ≡ records_in out ++ mark ∷ [] → room_of out' ≡ room_of out
     → HasRoom s phases (marks + 1) workers out p → HasRoom s phases marks workers out' (with_records p (mark ∷ []))
 room_after_mark s phases marks workers out out' p mark pushed size room =
-    search (arith, length-append, owed_less, kept_less, owed_still)
-
--- .. and no mark took none
-room_without_mark : (s : Session) (phases : List (List Op)) (marks : ℕ) (workers : List Worker) (out : Records) (p : Progress)
-    → HasRoom s phases (marks + 1) workers out p → HasRoom s phases marks workers out p
-room_without_mark s phases marks workers out p room = omega (arith, room)
+    search (arith, length-append, owed_less, owed_still)
 
 -- ---- no records
 none_by_actors : (k n : ℕ) → by_actors k n [] ≡ []
@@ -200,24 +189,17 @@ marked_by : {s : Session} {records written : List Record} (mark : Record) → St
 marked_by {s} {records} {written} mark behind so more =
     let threads = s.profile.threads in
     let after = arranged OnThreads threads more in
-    ap (arranged OnThreads threads) (append_assoc records (mark ∷ []) more)
-    ∙ ap (λ (rs : List Record). arranged OnThreads threads (rs ++ mark ∷ more)) so.records_are
-    ∙ ap (arranged OnThreads threads) (append_assoc so.before so.said (mark ∷ more))
-    ∙ so.marked (so.said ++ mark ∷ more)
-    ∙ ap (λ (rs : List Record). so.before_written ++ rs) (behind so.said more so.spoken)
-    ∙ sym (append_assoc so.before_written (by_actors 0 (threads + 1) so.said) (mark ∷ after))
-    ∙ ap (λ (ws : List Record). ws ++ mark ∷ after) (sym so.written_are)
-    ∙ sym (append_assoc written (mark ∷ []) after)
-
--- where another text of the records was written
-as_marked : (s : Session) (records : List Record) {written written' : _} → written' ≡ written → AreMarked s records written → AreMarked s records written'
-as_marked s records same so = subst (AreMarked s records) (sym same) so
+    let one = append_assoc so.before so.said (mark ∷ more) in
+    let two = append_assoc so.before_written (by_actors 0 (threads + 1) so.said) (mark ∷ after) in
+    let ends = append_assoc written (mark ∷ []) after in
+    let here = so.marked (so.said ++ mark ∷ more) in
+    cc (append_assoc records (mark ∷ []) more, so.records_are, one, here, behind so.said more so.spoken, two, so.written_are, ends)
 
 -- ---- the end
 -- ---- the close
 -- Each thread was stopped, then each keeper lowered its guards; then all that was said is gathered.
 module _ {region : SharedRegion} {s : Session} {team : Team} {p : Progress} {closed : List Worker} (at : TeamAt region s [] team p)
-    (did : ClosedFirst region s (length team.threads.items + length team.threads.items) team.threads.items closed p)
+    (did : ClosedFirst region s (s.threads + s.keepers) team.threads.items closed p)
     (many : length closed ≡ length team.threads.items) where
   abbrev f : Profile
   f = s.profile
@@ -236,10 +218,9 @@ module _ {region : SharedRegion} {s : Session} {team : Team} {p : Progress} {clo
   no_part k away = did.others k (λ m less there is. elim away [ inl first ↦ omega (arith, first, is) | inr past ↦ omega (arith, past, is, there) ])
 
   -- what they owed pays for what they said
-  said_few : length (by_actors 1 s.threads said) + length (by_actors (s.threads + 1) s.threads said) +
-      (owed_by f reached s.threads + owed_by_keepers f s.threads [] reached s.threads)
-      ≤ owed_by f p s.threads + owed_by_keepers f s.threads team.threads.items p s.threads + own_by (planned s) [] s.threads
-  said_few = all_paid f (planned s) s.threads [] said team.threads.items [] p reached s.threads (λ i lt.
+  said_few : length (by_actors 1 s.threads said) + length (by_actors (s.threads + 1) s.threads said) + owed_by s [] reached s.threads
+      ≤ owed_by s team.threads.items p s.threads + own_by (planned s) [] s.threads
+  said_few = all_paid s [] said team.threads.items [] p reached s.threads (λ i lt.
       let less : i < length team.threads.items = omega (arith, lt, threads_are) in
       let d = some_item team.threads.items i less in
       let one = did.each i d less in
@@ -266,15 +247,19 @@ module _ {region : SharedRegion} {s : Session} {team : Team} {p : Progress} {clo
       → length (records_in out) + (length (said_by_all closed) + length (said_by_keepers closed)) ≤ room_of out
   room_at_close out room = may_gather told 0 out out (nothing_more out) refl room
 
+  -- no keeper has a guard up
+  low_of : AreGuarded s.keepers closed → (i : ℕ) (d : Worker) → i < length closed → IsLow (get_or closed i d).keeper
+  low_of (true, size, all) i d lt = (did.each i d (omega (arith, lt, many))).low (omega (arith, lt, size))
+  low_of (false, none, all) i d lt = subst IsLow (sym (none_there (get_or closed i d).keeper (all i d lt))) tt
+
   module _ {gathered : List Worker} {out out2 : Records} (g : WereGathered closed gathered out out2) where
     -- The close is done once threads are stopped, guards are lowered and all that was said is gathered.
     pub has_closed : {after : Team} → after.threads.items ≡ gathered → after.scavenger ≡ team.scavenger → after.book ≡ team.book → HasPlaces s.threads after
         → AreMarked s p.records (records_in out) → {first last_seen : Whole}
-        → WentBy s (one_by_one (take (length team.threads.items + length team.threads.items) (closing_acts s.threads s.keepers))) p reached first last_seen
+        → WentBy s (one_by_one (take (s.threads + s.keepers) (closing_acts s.threads s.keepers))) p reached first last_seen
         → CloseDone region s after (records_in out2) first last_seen p
     has_closed {after} threads scavenger book places marked {first} {last_seen} went =
-        let acts = all_acts s.threads s.keepers (length team.threads.items + length team.threads.items)
-        (let most = most_keepers team.threads.items at.workers.guarded in omega (arith, most, threads_are)) in
+        let acts = all_acts s.threads s.keepers in
         let one : (i : ℕ) (d : Worker) → i < length gathered → i < length team.threads.items = λ i d lt. omega (arith, lt, g.many, many) in
         let clear : (i : ℕ) (d : Worker) → i < length closed → IsCleared (get_or closed i d) (get_or gathered i d) = λ i d lt.
         let here : i < length team.threads.items = omega (arith, lt, many) in
@@ -294,7 +279,7 @@ module _ {region : SharedRegion} {s : Session} {team : Team} {p : Progress} {clo
           };
           written_so = written told (records_in out) out out2 at.fit.fits marked (nothing_more out) g.added;
           empty = search arith fits 400;
-          low = search (arith, low_gathered, threads_are) fits 400;
+          low = search (arith, low_gathered, low_of (guarded told)) fits 400;
           went = subst (λ xs. WentBy s (one_by_one xs) p reached first last_seen) acts went;
         }
 
@@ -367,59 +352,69 @@ pub as_last : {region : SharedRegion} {s : Session} {all : List (List Op)} {team
 as_last {region} {s} {all} {team} {so_far} {out} phases i le so = rw drop_of_length-le at so
 
 -- ---- a phase
--- its mark was written, where it has one
-pub record BeforePhase (region : SharedRegion) (s : Session) (all : List (List Op)) (n : ℕ) (ops : List Op) (rest : List (List Op)) (team : Team)
+-- What is left begins with these acts, by these stages, and the records so far end with a mark, or there are none yet.
+pub record BeforeActs (region : SharedRegion) (s : Session) (all left : List (List Op)) (acts : List Act) (stages : List Stage) (marks : ℕ) (team : Team)
     (so_far : Whole) (out : Records) : Type 0 where
   pub p : Progress
-  pub at : PhaseAt region s ops rest (length rest + 1) team out p
-  pub leads : Leads s all (phase_acts s.threads ops ++ acts_left s.threads s.keepers (n + 1) rest)
-      (phase_stages s.threads ops ++ stages_left s.threads s.keepers (n + 1) rest) p so_far
+  pub team_at : TeamAt region s left team p
+  pub marked : AreMarked s p.records (records_in out)
+  pub room : HasRoom s left marks team.threads.items out p
+  pub leads : Leads s all acts stages p so_far
   pub stand : StandSo s so_far p.list
 
-module _ {region s all n ops rest team so_far out : _} (so : AfterPhases region s all n (ops ∷ rest) team so_far out) where
-  one_more : (out' : Records) (q : Progress) → HasRoom s (ops ∷ rest) (length (ops ∷ rest) + 1) team.threads.items out' q
-      → HasRoom s (ops ∷ rest) (length rest + 1 + 1) team.threads.items out' q
-  one_more out' q room =
-      subst (λ m. HasRoom s (ops ∷ rest) m team.threads.items out' q) (let e : length (ops ∷ rest) + 1 ≡ length rest + 1 + 1 = omega arith in e) room
+-- .. those of the next phase, whose mark was written, where it has one
+abbrev pub BeforePhase : SharedRegion → Session → List (List Op) → ℕ → List Op → List (List Op) → Team → Whole → Records → Type 0
+BeforePhase region s all n ops rest = BeforeActs region s all (ops ∷ rest) (phase_acts s.threads ops ++ acts_left s.threads s.keepers (n + 1) rest)
+    (phase_stages s.threads ops ++ stages_left s.threads s.keepers (n + 1) rest) (length rest + 1)
 
+-- .. or those of the close, whose mark was written
+abbrev pub BeforeClose : SharedRegion → Session → List (List Op) → Team → Whole → Records → Type 0
+BeforeClose region s all = BeforeActs region s all [] (closing_acts s.threads s.keepers) (one_by_one (closing_acts s.threads s.keepers)) 0
+
+module _ {region s all n left team so_far out : _} (so : AfterPhases region s all n left team so_far out) where
   -- there is room for a mark
   pub spare_for_mark : length (records_in out) < room_of out
   spare_for_mark = omega (arith, so.room)
 
-  -- The first phase begins where the replay stands, without a mark.
-  pub first_begins : n ≡ 0 → BeforePhase region s all n ops rest team so_far out
-  first_begins is = search (arith, are_none, room_without_mark, one_more, leads_as, first_phase)
-
-  -- Each later phase begins once its mark is among the records.
-  pub other_begins : {out' : Records} → 1 ≤ n → records_in out' ≡ records_in out ++ Record.Phase (n + 1) ∷ [] → room_of out' ≡ room_of out
-      → BeforePhase region s all n ops rest team so_far out'
-  other_begins {out'} some pushed size =
-      let after = with_records so.p (Record.Phase (n + 1) ∷ []) in
-      let all_led = leads_as (other_phase s.threads s.keepers n ops rest some)
-      (cc (left_stages s.threads s.keepers n (ops ∷ rest) some, left_stages s.threads s.keepers (n + 1) rest (omega arith))) so.leads in
+  -- What is behind a mark begins once it is among the records.
+  mark_begins : {acts : List Act} {stages : List Stage} {marks : ℕ} {out' : Records} (mark : Record) (act : Act)
+      → ((p : Progress) → Advances s.profile act p (with_records p (mark ∷ []))) → ((So : Type 0) → So → AtMark act So)
+      → StaysBehind s.profile.threads mark → Leads s all (act ∷ acts) (stage (act ∷ []) itself ∷ stages) so.p so_far → marks + 1 ≡ length left + 1
+      → records_in out' ≡ records_in out ++ mark ∷ [] → room_of out' ≡ room_of out → BeforeActs region s all left acts stages marks team so_far out'
+  mark_begins {marks = marks} {out'} mark act steps at behind leads few pushed size =
+      let after = with_records so.p (mark ∷ []) in
       record {
-        p = with_records so.p (Record.Phase (n + 1) ∷ []);
-        at = record {
-          team_at = team_at_records (Record.Phase (n + 1) ∷ []) so.team_at;
-          marked = as_marked s (so.p.records ++ Record.Phase (n + 1) ∷ []) pushed
-              (marked_by (Record.Phase (n + 1)) (λ said more spoken. (are_arranged s.profile.threads said spoken).0 (n + 1) more) so.written);
-          room = room_after_mark s (ops ∷ rest) (length rest + 1) team.threads.items out out' so.p (Record.Phase (n + 1)) pushed size
-              (one_more out so.p so.room);
-        };
+        p = after;
+        team_at = team_at_records (mark ∷ []) so.team_at;
+        marked = subst (AreMarked s (so.p.records ++ mark ∷ [])) (sym pushed) (marked_by mark behind so.written);
+        room = room_after_mark s left marks team.threads.items out out' so.p mark pushed size
+            (subst (λ m. HasRoom s left m team.threads.items out so.p) (sym few) so.room);
         leads = record {
-          reaches = λ q reaches. all_led.reaches q (after, refl, reaches);
-          in_phases = λ whole first of q is then.
-              all_led.in_phases whole first of q (after, refl, is) (stand_first so.team_at so_far whole so.stand first of, then);
-          by_stages = λ q l went. all_led.by_stages q l
-              (went_both (went_mark s (MarksPhase (n + 1) ∷ []) (after, refl, refl) refl so.team_at.nobody so.stand) went);
+          reaches = λ q reaches. leads.reaches q (after, steps so.p, reaches);
+          in_phases = λ whole first of q is then. leads.in_phases whole first of q (after, steps so.p, is)
+              (at (StandFirst so.p.list whole) (stand_first so.team_at so_far whole so.stand first of), then);
+          by_stages = λ q l went. leads.by_stages q l
+              (went_both (went_mark s (act ∷ []) (after, steps so.p, refl) refl so.team_at.nobody so.stand) went);
         };
         stand = so.stand;
       }
 
+module _ {region s all n ops rest team so_far out : _} (so : AfterPhases region s all n (ops ∷ rest) team so_far out) where
+  -- The first phase begins where the replay stands, without a mark.
+  pub first_begins : n ≡ 0 → BeforePhase region s all n ops rest team so_far out
+  first_begins is = search (arith, are_none, leads_as, first_phase)
+
+  -- Each later phase begins once its mark is among the records.
+  pub other_begins : {out' : Records} → 1 ≤ n → records_in out' ≡ records_in out ++ Record.Phase (n + 1) ∷ [] → room_of out' ≡ room_of out
+      → BeforePhase region s all n ops rest team so_far out'
+  other_begins some pushed size = mark_begins so (Record.Phase (n + 1)) (MarksPhase (n + 1)) (λ p. refl) (λ So is. is)
+      (λ said more spoken. (are_arranged s.profile.threads said spoken).0 (n + 1) more) (leads_as (other_phase s.threads s.keepers n ops rest some)
+      (cc (left_stages s.threads s.keepers n (ops ∷ rest) some, left_stages s.threads s.keepers (n + 1) rest (omega arith))) so.leads) (omega arith) pushed size
+
 -- A phase that was done leaves the replay where the phases after it come next.
-pub phase_ends : {region s all n ops rest team team' so_far so_far' out out' : _} (so : BeforePhase region s all n ops rest team so_far out)
+pub phase_ends : (n : ℕ) {region s all ops rest team team' so_far so_far' out out' : _} (so : BeforePhase region s all n ops rest team so_far out)
     → PhaseDone region s ops rest (length rest + 1) team' out out' so_far so_far' so.p → AfterPhases region s all (n + 1) rest team' so_far' out'
-phase_ends {region} {s} {all} {n} {ops} {rest} {team} {team'} {so_far} {so_far'} {out} {out'} so did = record {
+phase_ends n {s = s} {ops = ops} {rest} so did = record {
   p = did.reached;
   team_at = did.team_at;
   written = did.written;
@@ -438,37 +433,12 @@ phase_ends {region} {s} {all} {n} {ops} {rest} {team} {team'} {so_far} {so_far'}
 }
 
 -- ---- the close
--- its mark was written
-pub record BeforeClose (region : SharedRegion) (s : Session) (all : List (List Op)) (team : Team) (so_far : Whole) (out : Records) : Type 0 where
-  pub p : Progress
-  pub team_at : TeamAt region s [] team p
-  pub marked : AreMarked s p.records (records_in out)
-  pub room : HasRoom s [] 0 team.threads.items out p
-  pub leads : Leads s all (closing_acts s.threads s.keepers) (one_by_one (closing_acts s.threads s.keepers)) p so_far
-  pub stand : StandSo s so_far p.list
-
-module _ {region s all n team so_far out : _} (so : AfterPhases region s all n [] team so_far out) where
-  -- Before the close there is room for one record more.
-  pub spare_for_close : length (records_in out) < room_of out
-  spare_for_close = omega (arith, so.room)
-
-  -- The close begins once its mark is among the records.
-  pub close_begins : {out' : _} → records_in out' ≡ records_in out ++ Record.Close ∷ [] → room_of out' ≡ room_of out → BeforeClose region s all team so_far out'
-  close_begins {out'} pushed size = let after = with_records so.p (Record.Close ∷ []) in let all_led = leads_as (close_left s.threads s.keepers n) (close_stages s.threads s.keepers n) so.leads in record {
-    p = with_records so.p (Record.Close ∷ []);
-    team_at = team_at_records (Record.Close ∷ []) so.team_at;
-    marked = as_marked s (so.p.records ++ Record.Close ∷ []) pushed
-        (marked_by Record.Close (λ said more spoken. (are_arranged s.profile.threads said spoken).1 more) so.written);
-    room = room_after_mark s [] 0 team.threads.items out out' so.p Record.Close pushed size so.room;
-    leads = record {
-      reaches = λ q reaches. all_led.reaches q (after, refl, reaches);
-      in_phases = λ whole first of q is then.
-          all_led.in_phases whole first of q (after, refl, is) (stand_first so.team_at so_far whole so.stand first of, then);
-      by_stages = λ q l went. all_led.by_stages q l
-          (went_both (went_mark s (MarksClose ∷ []) (after, refl, refl) refl so.team_at.nobody so.stand) went);
-    };
-    stand = so.stand;
-  }
+-- The close begins once its mark is among the records.
+pub close_begins : {region s all n team so_far out out' : _} (so : AfterPhases region s all n [] team so_far out)
+    → records_in out' ≡ records_in out ++ Record.Close ∷ [] → room_of out' ≡ room_of out → BeforeClose region s all team so_far out'
+close_begins {s = s} {n = n} so pushed size = mark_begins so Record.Close MarksClose (λ p. refl) (λ So is. is)
+    (λ said more spoken. (are_arranged s.profile.threads said spoken).1 more)
+    (leads_as (close_left s.threads s.keepers n) (close_stages s.threads s.keepers n) so.leads) (omega arith) pushed size
 
 -- A close that was done ends the replay: all phases were replayed.
 pub close_ends : {region s all team team' so_far so_far' out written : _} (so : BeforeClose region s all team so_far out)

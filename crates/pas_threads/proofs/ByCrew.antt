@@ -2,13 +2,12 @@
 use Rattle.std.proofs.Common.{◌≡◌, ◌≢◌, ℕ, ◌+◌, ◌<◌, ◌≤◌, Bool, List, [], ◌∷◌, ◌++◌, length, drop, set, get_or, refl, ap, sym, ◌∙◌, subst, arith, length-append}
 use Rattle.std.proofs.{Common.{drop_of_length-le, zero, suc, eq-eqb, ne_eqb}, lemmas.List.drop_more}
 use Rattle.pas_profile.specs.declared.profile.Profile.{Profile}
-use Rattle.pas_shared.specs.{Benches.{row_on, StandsOver}, declared.{bench.Bench.Bench, bench_desk.{BenchDesk.BenchDesk, BenchHome.BenchHome}}}
-use Rattle.pas_shared.proofs.Benching.{row_tells}
+use Rattle.pas_shared.{specs.{Benches.row_on, declared.{bench.Bench.Bench, bench_desk.{BenchDesk.BenchDesk, BenchHome.BenchHome}}}, proofs.Benching.row_tells}
 use Rattle.pas_trace.specs.{Acts.{Act, StopsIdle, idle_stops, acts_of_chore, scavenger_acts, ReadsEpoch}, Asked.work_of, EveryPlan.{AreSound, IsSoundWork}}
 use Rattle.pas_trace.specs.{EveryPlan.{asked_after, IsActorBy}, declared.plan.{Op.Op, Chore.Chore, Work.Work}}
-use Rattle.pas_answers.{specs.{Answers.Progress, Ways.{EachOf, records_by}, Fit.{costs_of, cost_of_act, unbacks_of_act}}, proofs.OwnRecords.records_both}
-use Rattle.pas_answers.proofs.OwnRecords.{none_by, all_by}
-use Rattle.pas_steps.{specs.{Lists.{Whole, part}, Desks.Standing}, proofs.Parts.part_of_others}
+use Rattle.pas_answers.specs.{Answers.Progress, Reaching.Reaches, Ways.{EachOf, records_by}, Fit.{costs_of, cost_of_act, unbacks_of_act}}
+use Rattle.pas_answers.proofs.OwnRecords.{records_both, none_by, all_by}
+use Rattle.pas_steps.{specs.{Lists.part, Desks.Standing}, proofs.Parts.part_of_others}
 use Rattle.pas_acts.{specs.{Keepers.StandsStill, AtDesks.{told_if, for_act, HasRoomAt, ScavengerActs}}, proofs.AtDesk.{sits_still, sits_for}}
 use Rattle.pas_threads.specs.{Turns.{AreDistinct, Came, Pushed, Told, TookNoPart}, Lent.{Shift, number_in, standing_at, AreBeside, SitsLent, IsDeskAt}}
 use Rattle.pas_threads.specs.{Lent.{StopsLent, StoppedLent}, declared.workers.Worker.Worker, Crews.{Crew, crew, CrewSits, CrewActs, CrewStands, CrewDoes}}
@@ -29,7 +28,7 @@ told_one a k = search arith
 stops : {h : BenchHome} {s : Shift} {acts : List Act} {bench bench' : Bench} {old now : List Worker} {out out1 out2 : Records} {p : Progress} (n i : ℕ)
     (d w : Worker)
     → length old ≡ length s.idle → (so : StoppedLent h s acts bench old now out out1 i p) → i < length old → length now ≡ length old
-    → StopsLent h s.profile (number_in s i) n bench bench' (get_or now i d) w out1 out2 (s.lends i) so.did.turns.came.reached
+    → StopsLent h s.profile (number_in s i) n bench' (get_or now i d) w out1 out2 (s.lends i) so.did.turns.came.reached
     → StoppedLent h s (acts ++ (StopsIdle (number_in s i) n ∷ [])) bench' old (set now i w) out out2 (i + 1) p
 stops {h} {s} {acts} {bench} {bench'} {old} {now} {out} {out1} {out2} {p} n i d w size so lt many t =
     let k = number_in s i in
@@ -63,7 +62,7 @@ stops_begin n there at = at_first (record { did = record { turns = no_turn at.ea
 -- After one more lent thread was stopped where it was idle long enough, the stops so far are one more.
 pub stops_go_on : {h : BenchHome} {s : Shift} {bench bench' : Bench} {old now : List Worker} {out out1 out2 : Records} {p : Progress} (n i : ℕ) (d w : Worker)
     → length old ≡ length s.idle → (so : StopsSoFar h s n bench old now out out1 i p) → i < length old → length now ≡ length old
-    → StopsLent h s.profile (number_in s i) n bench bench' (get_or now i d) w out1 out2 (s.lends i) so.done.did.turns.came.reached
+    → StopsLent h s.profile (number_in s i) n bench' (get_or now i d) w out1 out2 (s.lends i) so.done.did.turns.came.reached
     → StopsSoFar h s n bench' old (set now i w) out out2 (i + 1) p
 stops_go_on {s = s} n i d w size so lt many t =
     goes_on (StopsIdle (number_in s i) n ∷ []) (ap (idle_stops n) (drop_more s.idle i 0 (omega (arith, lt, size)))) so (stops n i d w size so.done lt many t)
@@ -71,10 +70,8 @@ stops_go_on {s = s} n i d w size so lt many t =
 -- Once each lent worker had its turn, all the stops of the idle threads were done.
 pub stops_end : {h : _} {s : Shift} {bench old now out out1 p : _} (n i : ℕ) → length old ≡ length s.idle → length old ≤ i → i ≤ length old
     → StopsSoFar h s n bench old now out out1 i p → StoppedLent h s (idle_stops n s.idle) bench old now out out1 (length old) p
-stops_end {h} {s} {bench} {old} {now} {out} {out1} {p} n i size le ge so =
-    let count : i ≡ length old = omega (arith, le, ge) in
-    subst (λ m. StoppedLent h s (idle_stops n s.idle) bench old now out out1 m p) count
-    (at_last (ap (idle_stops n) (drop_of_length-le s.idle (omega (arith, le, size)))) so)
+stops_end {s = s} {old = old} n i size le ge so =
+    rw (let count : length old ≡ i = omega (arith, le, ge) in count) (at_last (ap (idle_stops n) (drop_of_length-le s.idle (omega (arith, le, size)))) so)
 
 -- ---- the scavenger's own act
 -- there is room for it, beside the acts that are left
@@ -117,14 +114,6 @@ pub costs_stops : (f : Profile) (n : ℕ) (idle : List ℕ) (next : List Act) �
 costs_stops f n [] next = omega arith
 costs_stops f n (k ∷ idle) next = let rest = costs_stops f n idle next in omega (arith, rest)
 
--- the scavenger, whose desk the lent threads used, sits there as it did
-stood_still : (desk : BenchDesk) {σ : Standing} {l m : Whole} → (standing_at desk).seat ≡ σ.seat → StandsOver (row_on desk.place.bench) m
-    → StandsStill σ (standing_at desk) l m
-stood_still desk {σ} {l} {m} seat over = record {
-  seat_is = seat;
-  stands = λ at same. (sym (row_tells (row_on desk.place.bench) m desk.place.member.actor over desk.place.sits.among_them), over);
-}
-
 -- The scavenger's reading of the epoch and the stops of the idle threads are acts that its crew did.
 pub did_idle : {h : BenchHome} {s : Shift} {next : List Act} {σ σ' : Standing} {places : ℕ} {out out' : Records} {old new : List Worker} {p : Progress} (n : ℕ)
     (desk : BenchDesk) (at : CrewSits h s (ReadsEpoch ∷ (idle_stops n s.idle ++ next)) (crew σ old places out) p)
@@ -137,13 +126,20 @@ did_idle {h} {s} {next} {σ} {σ'} {places} {out} {out'} {old} {new} {p} n desk 
     let costs = costs_stops s.profile n s.idle next in
     let many = at.lent.many in
     let longer = ap length stops.told.added ∙ length-append (records_in out) (records_by 0 stops.turns.came.said) in
+    let row = row_on desk.place.bench in
+    let its = desk.place.sits.among_them in
+    let still : StandsStill σ' (standing_at desk) read.reached.list stops.turns.came.reached.list =
+    record {
+      seat_is = seat;
+      stands = λ stood same. (sym (row_tells row stops.turns.came.reached.list desk.place.member.actor stopped.over its), stopped.over);
+    } in
     let own_part = stops.turns.leaves.parts 0 (λ i lt same. s.distinct.threads i (omega (arith, lt, many)) (sym same)) in
     record {
       came = came_both (came stays at read) stops.turns.came;
       stands = record {
         stands = record {
           stands = record {
-            sits = sits_still (λ v. costs_of s.profile.pages next + s.own.events) (stood_still desk seat stopped.over) own_part
+            sits = sits_still (λ v. costs_of s.profile.pages next + s.own.events) still own_part
                 (sits_for read.stands.sits (omega (arith, costs)));
             spare = omega (arith, longer, stops.few, read.stands.spare, costs, many, stops.told.room);
           };
@@ -157,15 +153,15 @@ did_idle {h} {s} {next} {σ} {σ'} {places} {out} {out'} {old} {new} {p} n desk 
       others = λ k some other. no_part_both (leaves_alone stays at read k some) (record { part_is = stops.turns.leaves.parts k (λ i lt. other i (omega (arith, lt, many))); silent = stops.turns.leaves.silent k some (λ i lt. other i (omega (arith, lt, many))) });
     }
 
--- ---- the acts written otherwise
-pub as_acts : {Lends : ℕ → Worker → Progress → Type 0} {s : Shift} {acts acts' : List Act} {has : Crew} {p : Progress} (next : List Act) → acts ≡ acts'
-    → CrewStands Lends s (acts ++ next) has p → CrewStands Lends s (acts' ++ next) has p
-as_acts {Lends} {s} {has = has} {p} next is at = subst (λ (xs : List Act). CrewStands Lends s (xs ++ next) has p) is at
+-- ---- the chore written otherwise
+pub as_acts : {Lends : ℕ → Worker → Progress → Type 0} {s : Shift} {has : Crew} {p : Progress} (next : List Act) {one chore : Chore} → chore ≡ one
+    → CrewStands Lends s (acts_of_chore s.idle chore ++ next) has p → CrewStands Lends s (acts_of_chore s.idle one ++ next) has p
+as_acts {Lends} {s} {has} {p} next is at = subst (λ x. CrewStands Lends s (acts_of_chore s.idle x ++ next) has p) is at
 
--- What a crew did for some acts it did for the same acts otherwise written.
-pub to_acts : {Lends : ℕ → Worker → Progress → Type 0} {s : Shift} {acts acts' next : List Act} {has has' : Crew} {p : Progress} → acts ≡ acts'
-    → CrewDoes Lends s acts' next has has' p → CrewDoes Lends s acts next has has' p
-to_acts {Lends} {s} {next = next} {has} {has'} {p} is did = subst (λ (xs : List Act). CrewDoes Lends s xs next has has' p) (sym is) did
+-- What a crew did for some chore it did for the same chore otherwise written.
+pub to_acts : {Lends : ℕ → Worker → Progress → Type 0} {s : Shift} {next : List Act} {has has' : Crew} {p : Progress} {one chore : Chore} → chore ≡ one
+    → CrewDoes Lends s (acts_of_chore s.idle one) next has has' p → CrewDoes Lends s (acts_of_chore s.idle chore) next has has' p
+to_acts {Lends} {s} {next} {has} {has'} {p} is did = subst (λ x. CrewDoes Lends s (acts_of_chore s.idle x) next has has' p) (sym is) did
 
 -- ---- which operation comes next
 -- it may follow the names of some list
@@ -198,6 +194,27 @@ module _ (f : Profile) (asked : List ℕ) (ops : List Op) (i : ℕ) (d : Op) (so
   pub skip_acts : (idle : List ℕ) → ((chore : Chore) → work ≡ Work.Chore chore → ⊥) → scavenger_acts idle (drop i ops) ≡ scavenger_acts idle (drop (i + 1) ops)
   skip_acts idle not = search (arith, drop_more, ne_eqb, not_first, of_actor)
 
+-- by these acts, which are those told otherwise
+abbrev pub came_as : {f : Profile} {acts acts' : List Act} {p : Progress} → acts' ≡ acts → Came f acts p → Came f acts' p
+came_as {f} {p = p} is own = record {
+  reached = own.reached;
+  reaches = subst (λ acts. Reaches f acts p own.reached) (sym is) own.reaches;
+  said = own.said;
+  records_are = own.records_are;
+}
+
+-- where there are no acts, the crew did them all
+abbrev pub did_none : {Lends : ℕ → Worker → Progress → Type 0} {s : Shift} {acts next : List Act} {has : Crew} {p : Progress} → acts ≡ []
+    → CrewStands Lends s next has p → CrewDoes Lends s acts next has has p
+did_none {s = s} {p = p} none at = record {
+  came = came_as none (came_none s.profile p);
+  stands = at;
+  told = pushed_none refl;
+  lent = λ i d lt. told_none refl;
+  books = refl;
+  others = λ k some other. record { part_is = refl; silent = refl };
+}
+
 -- so far, the scavenger's operations before this place were done
 abbrev pub CrewSoFar : (ℕ → Worker → Progress → Type 0) → Shift → List Op → ℕ → Crew → Crew → Progress → Type 0
 CrewSoFar Lends s ops i has0 has p =
@@ -206,7 +223,7 @@ CrewSoFar Lends s ops i has0 has p =
 -- Before the first operation of a phase its crew did no acts.
 pub crew_begins : {Lends : ℕ → Worker → Progress → Type 0} {s : Shift} (ops : List Op) {has : Crew} {p : Progress}
     → CrewStands Lends s (scavenger_acts s.idle ops) has p → CrewSoFar Lends s ops 0 has has p
-crew_begins {s = s} ops {has} {p} at = at_first (record { came = came_none s.profile p; stands = at; told = pushed_none refl; lent = λ i d lt. told_none refl; books = refl; others = λ k some other. record { part_is = refl; silent = refl } })
+crew_begins ops at = at_first (did_none refl at)
 
 -- the next one is this chore
 module _ {Lends : ℕ → Worker → Progress → Type 0} {s : Shift} (ops : List Op) (i : ℕ) {has0 has : Crew} {p : Progress} (chore : Chore)

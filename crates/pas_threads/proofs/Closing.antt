@@ -1,8 +1,7 @@
 -- The close: thread by thread and keeper by keeper; and behind each of these acts the ledger takes in a pass, is settled, and gives the pass back.
-use Rattle.std.proofs.Common.{◌≡◌, ◌≢◌, ℕ, suc, ◌+◌, ◌-◌, ◌<◌, ◌≤◌, inl, inr, List, [], ◌∷◌, ◌++◌, length, set, get_or, map, Option, Some, None, refl, ap, sym}
-use Rattle.std.proofs.Common.{◌∙◌, subst, arith, length-set, get_or-set_same, get_or-set_other, length-append, take, take_all, get_or-append-add, set-set}
-use Rattle.std.proofs.{Common.append-nil, lemmas.{List.{set-get_or, get_or_default, length-map, get_or-map, take_more, map-append}, Bool.{cases_lt, cases_eq}}}
-use Rattle.std.proofs.Math.ListN.{get_or-append}
+use Rattle.std.proofs.Common.{◌≡◌, ◌≢◌, ℕ, suc, ◌+◌, ◌-◌, ◌<◌, inl, inr, List, [], ◌∷◌, ◌++◌, length, set, get_or, map, Option, Some, refl, ap, sym, ◌∙◌, subst}
+use Rattle.std.proofs.{Common.{arith, length-append, take, take_all, get_or-append-add, append-nil, is_some, false, true}, lemmas.List.get_or_default}
+use Rattle.std.proofs.{lemmas.List.{length-map, get_or-map, take_more, map-append}, Math.ListN.get_or-append}
 use Rattle.pas_profile.specs.declared.profile.Profile.{Profile}
 use Rattle.pas_steps.{specs.Lists.{Whole, part}, proofs.Parts.part_of_others}
 use Rattle.pas_trace.{specs.{Acts.{Act, Ends, Lowers, numbers_from}, declared.plan.Op.Op}, proofs.ThreadsInOrder.numbers_count}
@@ -13,13 +12,13 @@ use Rattle.pas_shared.specs.Ledgers.{part_of, IsSameLedger, IsRestOf}
 use Rattle.pas_answers.specs.{Answers.{Progress, Caches, Books}, Stages.{Stage, one_by_one, stage, itself}, Calls.owed_events, Ways.{EachOf, records_by}}
 use Rattle.pas_answers.{specs.Reaching.Reaches, proofs.OwnRecords.{records_both, all_by, none_by, spoken_piece, spoken_both}}
 use Rattle.pas_acts.{specs.{AtDesks.ThreadActs, Keepers.KeeperLowers, Pairs.KeptPushed}, proofs.{AtDesk.{leaves_rest, rests_still}, Working.kept_both}}
-use Rattle.pas_threads.specs.{Pairs.{no_more, kept_by_worker, owed_kept, AreGuarded, IsKeeperOf, IsLow, KeeperLowered, IsButKeeper}, Sessions.{Session, evenly}}
-use Rattle.pas_threads.specs.{Sessions.{closing_acts, StandSo, WentBy, WorkersRest}, Settling.{ActorsStand, Settled, StandsIn}, Hands.HasPass, Kits.with_keeper}
-use Rattle.pas_threads.specs.{Closing.{ThreadTold, KeeperTold, ClosedFirst, ClosesNext, ClosedSo, IsClosing}, Turns.{Came, Pushed, Turn, TookTurns, IsDue}}
-use Rattle.pas_threads.{specs.{Turns.owed_at, declared.{keeper.Keeper.Keeper, workers.Worker.Worker}}, proofs.{Dealt.{number_at, some_item}, Staging.still_at}}
-use Rattle.pas_threads.proofs.{Staging.{thread_stands, keeper_stands, went_none, went_both, went_alone}, Keepers.{alike_same, alike_pushed, guarded_alike}}
-use Rattle.pas_threads.proofs.{Keepers.{waits_still, kept_none}, TakingTurns.{set_each, came_none, came_both, pushed_none, pushed_both, no_part_both}}
-use Rattle.pas_threads.proofs.TakingTurns.{pass_still, same_owed}
+use Rattle.pas_threads.specs.Pairs.{no_more, kept_by_worker, owed_kept, AreGuarded, IsKeeperOf, IsLow, KeeperLowered, IsButKeeper, KeeperStands}
+use Rattle.pas_threads.specs.{Sessions.{Session, evenly, closing_acts, StandSo, WentBy, WorkersRest}, Settling.{ActorsStand, Settled, StandsIn}}
+use Rattle.pas_threads.specs.{Closing.{ThreadTold, KeeperTold, ClosedFirst, ClosesNext, ClosedSo, IsClosing, MayClose}, Turns.{Came, Pushed, Turn, TookTurns}}
+use Rattle.pas_threads.{specs.{Turns.{IsDue, owed_at}, declared.{keeper.Keeper.Keeper, workers.Worker.Worker}}, proofs.{Dealt.number_at, Staging.still_at}}
+use Rattle.pas_threads.proofs.{Staging.{thread_stands, keeper_stands, went_none, went_both, went_alone}, Keepers.{alike_pushed, guarded_alike, waits_still}}
+use Rattle.pas_threads.proofs.{Keepers.{kept_none, kept_there, stands_for}, TakingTurns.{set_each, came_none, came_both, pushed_none, pushed_both}}
+use Rattle.pas_threads.proofs.TakingTurns.{no_part_both, pass_still, same_owed}
 use Rattle.pas_records.specs.{Rooms.{records_in, room_of}, declared.record.Record.Record}
 
 -- ---- all actors stand after turns of the threads
@@ -30,7 +29,7 @@ turns_stand {region} {s} {slot} {acts} {old} {now} {later} {o} {p} at turns many
     let threads = at.many in
     record {
       many = many ∙ at.many;
-      guarded = guarded_alike old now many (λ i d lt. alike_same (turns.told i d lt).keeper) at.guarded;
+      guarded = guarded_alike old now many (λ i d lt. ap is_some (turns.told i d lt).keeper) at.guarded;
       scavenger = still_at (turns.leaves.parts 0 (λ i lt is. omega (arith, is))) at.scavenger;
       threads = λ i d lt. thread_stands (turns.stand i d (omega (arith, lt, many))).here;
       keepers = λ i d keeper lt is.
@@ -103,9 +102,9 @@ closing_many threads keepers =
     let second = length-map (numbers_from (threads + 1) keepers) Lowers ∙ numbers_count (threads + 1) keepers in
     omega (arith, first, second, length-append (map Ends (numbers_from 1 threads)) (map Lowers (numbers_from (threads + 1) keepers)))
 
--- Once each place had its turn all acts are done.
-pub all_acts : (threads keepers i : ℕ) → threads + keepers ≤ i → take i (closing_acts threads keepers) ≡ closing_acts threads keepers
-all_acts threads keepers i past = let many = closing_many threads keepers in take_all i (closing_acts threads keepers) (omega (arith, many, past))
+-- Once each actor had its turn all acts are done.
+pub all_acts : (threads keepers : ℕ) → take (threads + keepers) (closing_acts threads keepers) ≡ closing_acts threads keepers
+all_acts threads keepers = let many = closing_many threads keepers in take_all (threads + keepers) (closing_acts threads keepers) (omega (arith, many))
 
 thread_act : (threads keepers i : ℕ) → i < threads → take (i + 1) (closing_acts threads keepers) ≡ take i (closing_acts threads keepers) ++ Ends (suc i) ∷ []
 thread_act threads keepers i lt =
@@ -165,22 +164,6 @@ module _ {region : SharedRegion} {s : Session} {i : ℕ} {old now : List Worker}
     nobody = λ k past. (so.others k (λ m less there is. omega (arith, past, there, is))).part_is ∙ at.nobody k past;
   }
 
-  -- An actor that isn't there is passed over.
-  pub closes_pass : AreGuarded s.keepers old → length now ≡ length old → s.threads ≡ length old → s.threads ≤ i → s.keepers ≡ 0
-      → ((j : ℕ) (d : Worker) → j < length old → (get_or now j d).keeper ≡ None)
-      → ClosedFirst region s (i + 1) old now p
-  closes_pass guarded many threads le none gone =
-      let acts = all_acts s.threads s.keepers i (omega (arith, le, none)) ∙ sym (all_acts s.threads s.keepers (i + 1) (omega (arith, le, none))) in
-      record {
-        came = record { reached = q; reaches = subst (λ xs. Reaches s.profile xs p q) acts so.came.reaches; said = so.came.said; records_are = so.came.records_are };
-        spoken = so.spoken;
-        each = λ j d lt.
-            let one = so.each j d lt in
-            search arith fits 400;
-        others = λ k other. so.others k (λ m less there. other m (omega (arith, less)) there);
-        names = so.names;
-      }
-
   -- The actor at place i, which is of the worker at place j, made its act; the worker is w then.
   module _ {k : ℕ} {act : Act} (x : ActorDid s.profile k act q) (at : k ≡ suc i) (many : length now ≡ length old)
       (acts : take (i + 1) (closing_acts s.threads s.keepers) ≡ take i (closing_acts s.threads s.keepers) ++ act ∷ []) (there : i < s.threads + s.keepers) where
@@ -194,16 +177,9 @@ module _ {region : SharedRegion} {s : Session} {i : ℕ} {old now : List Worker}
         let apart : suc j ≢ k = λ is. thread (omega (arith, is, at)) in
         let away : s.threads + suc j ≢ k = λ is. keeper (omega (arith, is, at)) in
         let own = ap length (said_other x so.came.said (suc j) apart) in
-        record {
-          thread = thread_stays x (suc j) apart one.thread;
-          keeper = keeper_stays x (suc j) away one.keeper;
-          requests = one.requests;
-          paid = omega (arith, own, same_owed s.profile q x.came.reached (suc j) (x.parts (suc j) apart) (x.caches (suc j) apart), one.paid);
-          kept_paid = omega (arith, ap length (said_other x so.came.said (s.threads + suc j) away), one.kept_paid);
-          empty = λ less. one.empty (omega (arith, less, thread));
-          low = λ less. one.low (omega (arith, less, keeper));
-          left = λ from. one.left (omega (arith, from));
-        }
+        let same = same_owed s.profile q x.came.reached (suc j) (x.parts (suc j) apart) (x.caches (suc j) apart) in
+        let kept = ap length (said_other x so.came.said (s.threads + suc j) away) in
+        search (arith, thread_stays, keeper_stays, own, same, kept, one.empty, one.low, one.left) fits 400
 
     abbrev closes : (j : ℕ) (w : Worker) → j < length old
         → ((e : Worker) → IsClosing region s (i + 1) j said (get_or old j e) w p x.came.reached)
@@ -242,19 +218,16 @@ module _ {region : SharedRegion} {s : Session} {i : ℕ} {old now : List Worker}
       ap (λ (c : Cached). owed_events s.profile c (part (suc i) x.reached.list)) x.stands.cache in
       let before : owed_at s.profile (suc i) q ≡ owed_events s.profile (cached (get_or now i d).cache) (part (suc i) q.list) =
       ap (λ (c : Cached). owed_events s.profile c (part (suc i) q.list)) (so.each i d lt).thread.here.rests.cache in
-      record {
-        thread = record {
-          here = record { has = t.did.after; rests = x.stands };
-          out = pushed_both one.thread.out (subst (λ (v : Worker). Pushed (suc i) x.own v.out w.out) same pushed);
-        };
-        keeper = subst (λ (o : Option Keeper). KeeperTold region s [] (suc i) all (get_or old i e).keeper o x.reached) (sym keeper) (keeper_stays did (suc i) away one.keeper);
-        requests = t.requests ∙ ap (λ (v : Worker). v.requests) same ∙ one.requests;
-        paid = omega (arith, longer, ap length (all_by (suc i) x.own x.each), then, before, x.paid, one.paid);
-        kept_paid = omega (arith, ap length (said_other did so.came.said (s.threads + suc i) away), one.kept_paid);
-        empty = λ less. none;
-        low = λ less. absurd (omega (arith, less, lt, threads));
-        left = λ from. keeper ∙ one.left (omega (arith, from));
+      let told : ThreadTold region s [] (suc i) all (get_or old i e) w x.reached = record {
+        here = record { has = t.did.after; rests = x.stands };
+        out = pushed_both one.thread.out (subst (λ (v : Worker). Pushed (suc i) x.own v.out w.out) same pushed);
       } in
+      let stays = keeper_stays did (suc i) away one.keeper in
+      let kept = subst (λ (o : Option Keeper). KeeperTold region s [] (suc i) all (get_or old i e).keeper o x.reached) (sym keeper) stays in
+      let requests = t.requests ∙ ap (λ (v : Worker). v.requests) same in
+      let own = ap length (all_by (suc i) x.own x.each) in
+      let other = ap length (said_other did so.came.said (s.threads + suc i) away) in
+      search (arith, told, kept, requests, longer, own, then, before, x.paid, one.paid, other, one.kept_paid, keeper, one.left, lt, threads) fits 400 in
       record {
         next = closes did refl many acts (omega (arith, lt, threads)) i w lt this (λ m ne less. (ne, λ is. omega (arith, is, lt, less, threads)));
         act = Ends (suc i);
@@ -262,10 +235,20 @@ module _ {region : SharedRegion} {s : Session} {i : ℕ} {old now : List Worker}
         acts_are = acts;
       }
 
+  -- The keeper of the worker at place j stands, before its act.
+  pub keeper_there : (j : ℕ) (d : Worker) → i ≡ s.threads + j → j < s.keepers → AreGuarded s.keepers old
+      → (keeper : Keeper) × ((get_or now j d).keeper ≡ Some keeper) × KeeperStands region s.profile (s.threads + suc j) keeper no_more q
+  keeper_there j d at less (false, none, all) = absurd (omega (arith, none, less))
+  keeper_there j d at less (true, size, all) =
+      let lt : j < length old = omega (arith, size, less) in
+      let here = so.each j d lt in
+      let has = kept_there (get_or now j d).keeper (ap is_some (here.left (omega (arith, at))) ∙ all j d lt) in
+      (has.0, has.1, stands_for (get_or now j d).keeper has.0 has.1 here.keeper.of here.keeper.waits)
+
   -- The keeper of the worker at place j lowered its guards.
   module _ (j : ℕ) (d w : Worker) (keeper after : Keeper) (threads : s.threads ≡ length old) (at : i ≡ s.threads + j) (lt : j < length old)
       (many : length now ≡ length old)
-      (all : s.keepers ≡ length old)
+      (less : j < s.keepers)
       (had : (get_or now j d).keeper ≡ Some keeper) (but : IsButKeeper (get_or now j d) w) (lowered : w.keeper ≡ Some after)
       (did : KeeperLowered region s.profile (s.threads + suc j) keeper after no_more q) where
     abbrev k : ℕ
@@ -313,46 +296,29 @@ module _ {region : SharedRegion} {s : Session} {i : ℕ} {old now : List Worker}
         let changed : IsButKeeper (get_or now j e) w = subst (λ (v : Worker). IsButKeeper v w) (get_or_default now j d e place) but in
         let own = ap length (said_other x so.came.said (suc j) apart) in
         let size = ap length its_said in
-        record {
-          thread = thread_then e;
-          keeper = keeper_then e;
-          requests = changed.requests ∙ one.requests;
-          paid = omega (arith, own, same_owed s.profile q did.did.reached (suc j) (x.parts (suc j) apart) (x.caches (suc j) apart), one.paid);
-          kept_paid = omega (arith, did.did.few, size, ap (λ (o : Option Keeper). owed_kept s.profile k o p) (sym (one.left (omega (arith, at))) ∙ was e));
-          empty = λ less. ap (λ (c : ThreadCache). (cached c).locals) changed.cache ∙ one.empty (omega (arith, lt, threads, at));
-          low = λ less. subst IsLow (sym lowered) did.did.none;
-          left = λ from. absurd (omega (arith, from, at));
-        }
+        let same = same_owed s.profile q did.did.reached (suc j) (x.parts (suc j) apart) (x.caches (suc j) apart) in
+        let kept = ap (λ (o : Option Keeper). owed_kept s.profile k o p) (sym (one.left (omega (arith, at))) ∙ was e) in
+        let empty = ap (λ (c : ThreadCache). (cached c).locals) changed.cache ∙ one.empty (omega (arith, lt, threads, at)) in
+        let low = subst IsLow (sym lowered) did.did.none in
+        search (arith, thread_then e, keeper_then e, own, same, one.paid, size, kept, did.did.few, empty, low, at, lt, threads) fits 400
 
     pub keeper_closes : ClosesNext region s i old now (set now j w) p so
     keeper_closes =
-        let acts = ap (λ n. take (n + 1) (closing_acts s.threads s.keepers)) at ∙ keeper_act s.threads s.keepers j (omega (arith, lt, all))
+        let acts = ap (λ n. take (n + 1) (closing_acts s.threads s.keepers)) at ∙ keeper_act s.threads s.keepers j less
         ∙ ap (λ n. take n (closing_acts s.threads s.keepers) ++ Lowers k ∷ []) (sym at) in
         record {
-          next = closes (keeper_did did.did) (omega (arith, at)) many acts (omega (arith, at, lt, all)) j w lt this_keeper
+          next = closes (keeper_did did.did) (omega (arith, at)) many acts (omega (arith, at, less)) j w lt this_keeper
               (λ m ne less. (λ is. omega (arith, is, less, at, threads), λ is. ne (omega (arith, is, at))));
           act = Lowers k;
           reaches = did.did.reaches;
           acts_are = acts;
         }
 
--- Where one worker has a keeper, there are as many keepers as workers.
-pub has_all : {keepers : ℕ} (old : List Worker) (i : ℕ) (d : Worker) (keeper : Keeper) → i < length old → AreGuarded keepers old
-    → (get_or old i d).keeper ≡ Some keeper → keepers ≡ length old
-has_all old i d keeper lt a is = search arith
-
 -- ---- .. and the ledger is settled behind each
--- where one worker has no keeper, none has
-none_has : {keepers : ℕ} (workers : List Worker) (j : ℕ) (d : Worker) → j < length workers → AreGuarded keepers workers → (get_or workers j d).keeper ≡ None
-    → (keepers ≡ 0) × ((i : ℕ) (e : Worker) → i < length workers → (get_or workers i e).keeper ≡ None)
-none_has workers j d lt (inl all) is = let has = all.1 j d lt in absurd (let bad : None ≡ Some has.0 = sym is ∙ has.1 in cc)
-none_has workers j d lt (inr none) is = none
-
 pub settles_begin : {region : SharedRegion} {s : Session} {slot : Option SharedPass} {old : List Worker} {before : Whole} {p : Progress}
-    → WorkersRest region s [] old p
-    → ActorsStand region s slot old p.list → StandSo s before p.list → ClosedSo region s 0 old old before before p
+    → MayClose region s slot old before p → ClosedSo region s 0 old old before before p
 unfolding closes_begin
-settles_begin {s = s} rest stand stood = record { closing = closes_begin rest; went = went_none s stood stand.nobody }
+settles_begin {s = s} may = record { closing = closes_begin may.rest; went = went_none s may.stood may.stand.nobody }
 
 -- Once it is settled behind one more act, one more stage is behind it.
 pub settles_next : {region s slot i old now new before after settled p : _} (so : ClosedSo region s i old now before after p)
@@ -364,25 +330,6 @@ settles_next {s = s} {i = i} {before = before} {settled = settled} {p} so n many
       (sym (ap one_by_one n.acts_are ∙ map-append (λ (act : Act). stage (act ∷ []) itself) (take i (closing_acts s.threads s.keepers)) (n.act ∷ [])))
       (went_both so.went (went_alone s (n.act ∷ []) n.reaches earlier (closed_stand so.closing many at).nobody (closed_stand n.next many2 at).nobody so.went.stand stood));
 }
-
-pub settles_pass : {region : SharedRegion} {s : Session} {i : ℕ} {old now : List Worker} {before after : Whole} {p : Progress}
-    → ClosedSo region s i old now before after p
-    → AreGuarded s.keepers old → length now ≡ length old → s.threads ≡ length old → s.threads ≤ i → i < s.threads + s.threads
-    → ((d : Worker) → (get_or now (i - s.threads) d).keeper ≡ None)
-    → ClosedSo region s (i + 1) old now before after p
-unfolding closes_pass
-settles_pass {s = s} {i} {old} {now} {before} {after} {p} so guarded many threads le lt gone =
-    let j = i - s.threads in
-    let d = some_item old j (omega (arith, lt, le, threads)) in
-    let x = so.closing in
-    let now_guarded = guarded_alike old now many (λ m e less. alike_pushed (s.threads + suc m) x.came.said (get_or old m e).keeper (get_or now m e).keeper (x.each m e less).keeper.out) guarded in
-    let all = none_has now j d (omega (arith, lt, le, threads, many)) now_guarded (gone d) in
-    let none = all.0 in
-    record {
-      closing = closes_pass x guarded many threads le none (λ m e less. all.1 m e (omega (arith, less, many)));
-      went = subst (λ acts. WentBy s (one_by_one acts) p x.came.reached before after)
-          (all_acts s.threads s.keepers i (omega (arith, le, none)) ∙ sym (all_acts s.threads s.keepers (i + 1) (omega (arith, le, none)))) so.went;
-    }
 
 -- A ledger took in an actor, was settled with it and gave it back: its pass is the same and stands there, and what the ledger had before is settled.
 pub given_back : (region : SharedRegion) {pass rest old taken settled : _} (given : SharedPass) (back : Ledger) → IsPassOf region pass → IsRestOf pass rest
@@ -401,46 +348,3 @@ given_back region {pass = pass} {old = old} {settled = settled} given back of is
       },
       cc (so.all pass.place.actor (view_of pass) (subst (λ (ps : List Part). HasPart ps pass.place.actor (view_of pass)) (sym took) (inl (refl, refl)))),
     )
-
--- what stood in it then stands in it still
-pub stands_still : (settled back : Ledger) (pass : SharedPass) → IsSameLedger settled back → StandsIn (so_far settled) pass → StandsIn (so_far back) pass
-stands_still settled back pass after stands = ap (part pass.place.actor) after.steps ∙ stands
-
--- ---- the place of the pass
-abbrev pub with_pass : Worker → Option SharedPass → Worker
-with_pass w pass = record { pass = pass; cache = w.cache; requests = w.requests; out = w.out; keeper = w.keeper; member = w.member; bench = w.bench }
-
--- with what was taken out of the worker at this place the workers are as they were
-pub keeper_back : (ws now : List Worker) (at : ℕ) (e d : Worker) (gone keeper : Option Keeper) → at < length ws
-    → now ≡ set ws at (with_keeper (get_or ws at e) gone) → keeper ≡ (get_or ws at e).keeper → set now at (with_keeper (get_or now at d) keeper) ≡ ws
-keeper_back ws now at e d gone keeper lt is back =
-    let w = get_or ws at e in
-    let mid = with_keeper w gone in
-    let here : get_or now at d ≡ mid = ap (λ (vs : List Worker). get_or vs at d) is ∙ get_or-set_same ws at mid d lt in
-    ap (λ (v : Worker). set now at (with_keeper v keeper)) here ∙ ap (λ vs. set vs at (with_keeper w keeper)) is ∙ set-set ws at mid (with_keeper w keeper)
-    ∙ ap (λ (o : Option Keeper). set ws at (with_keeper w o)) back ∙ set-get_or ws at e
-
--- A pass that was put back into its worker's place leaves all workers as they were.
-pub pass_back : (ws now : List Worker) (at : ℕ) (e d : Worker) (gone pass : Option SharedPass) → at < length ws
-    → now ≡ set ws at (with_pass (get_or ws at e) gone) → pass ≡ (get_or ws at e).pass → set now at (with_pass (get_or now at d) pass) ≡ ws
-pass_back ws now at e d gone pass lt is back =
-    let w = get_or ws at e in
-    let mid = with_pass w gone in
-    let here : get_or now at d ≡ mid = ap (λ (vs : List Worker). get_or vs at d) is ∙ get_or-set_same ws at mid d lt in
-    ap (λ (v : Worker). set now at (with_pass v pass)) here ∙ ap (λ vs. set vs at (with_pass w pass)) is ∙ set-set ws at mid (with_pass w pass)
-    ∙ ap (λ (o : Option SharedPass). set ws at (with_pass w o)) back ∙ set-get_or ws at e
-
--- a worker without its pass has its keeper, and the others are as they were
-pub kept_at : (ws : List Worker) (at i : ℕ) (mid e d : Worker) → at < length ws → mid.keeper ≡ (get_or ws at e).keeper → i < length ws
-    → (get_or (set ws at mid) i d).keeper ≡ (get_or ws i d).keeper
-kept_at ws at i mid e d lt same less = search (arith, cases_eq, get_or-set_same, get_or_default, get_or-set_other)
-
--- .. or later ones have theirs
-pub passes_at : {region : _} (ws : List Worker) (at : ℕ) (mid : Worker) → ((i : ℕ) (d : Worker) → at ≤ i → i < length ws → HasPass region (get_or ws i d).pass)
-    → (i : ℕ) (d : Worker) → at + 1 ≤ i → i < length (set ws at mid) → HasPass region (get_or (set ws at mid) i d).pass
-passes_at {region} ws at mid all i d le lt =
-    search (arith, length-set, get_or-set_other)
-
--- this place, or a later one
-pub here_or_later : (at i : ℕ) → at ≤ i → (P : ℕ → Type 0) → P at → (at + 1 ≤ i → P i) → P i
-here_or_later at i le P here later = search (arith, cases_lt)

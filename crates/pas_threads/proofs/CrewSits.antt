@@ -3,18 +3,18 @@ use Rattle.std.proofs.Common.{◌≡◌, ◌≢◌, ◌⊎◌, ⊎_elim, ℕ, �
 use Rattle.std.proofs.{Common.{ap, sym, ◌∙◌, subst, arith, true≢false, eq-eqb, ne_eqb, zero, suc, append-nil, get_or-set_other}, lemmas.Bool.cases_eq}
 use Rattle.std.proofs.lemmas.{Option.same_Some, List.get_or_default}
 use Rattle.pas_profile.specs.declared.profile.Profile.{Profile}
-use Rattle.pas_steps.specs.{Desks.Standing, Lists.{Whole, part}, Views.View, Noted.AreNotesOf}
-use Rattle.pas_cache.specs.Caches.{Cached, cached}
+use Rattle.pas_steps.specs.{Lists.{Whole, part}, Views.View, Noted.AreNotesOf}
+use Rattle.pas_cache.specs.Caches.{cached}
 use Rattle.pas_shared.specs.{Ruled.{among, made_in, all_actors, only_this, isnt, rows_of, rows_of_only, steps_of, IsRowOf, AreRowsOf, only}, Benches.empty_row}
-use Rattle.pas_shared.specs.Benches.{first_row, row_on, rows_on, seat_of_member, standing_on, HasLooked, IsBenchOf, IsFreshRow, IsMemberOf, SitsInRow, MaySitOn}
-use Rattle.pas_shared.specs.{Benches.StandsOver, Ledgers.part_of, Passes.{seat_of, view_of, IsPassOf}, declared.bench.{Bench.Bench, Member.Member}}
+use Rattle.pas_shared.specs.Benches.{first_row, row_on, rows_on, seat_of_member, standing_on, HasLooked, IsBenchOf, IsMemberOf, SitsInRow, MaySitOn, StandsOver}
+use Rattle.pas_shared.specs.{Ledgers.part_of, Passes.{seat_of, view_of, IsPassOf}, declared.bench.{Bench.Bench, Member.Member}}
 use Rattle.pas_shared.specs.declared.{bench_desk.{BenchDesk.BenchDesk, BenchHome.BenchHome}, pass.SharedPass.SharedPass, region.SharedRegion.SharedRegion}
 use Rattle.pas_shared.{specs.declared.rule.{Entry.Entry, Row.Row}, proofs.Benching.{among_picked, row_tells, stands_first, among_only}}
-use Rattle.pas_trace.specs.Acts.{Act, StopsIdle}
+use Rattle.pas_trace.specs.Acts.{Act}
 use Rattle.pas_answers.{specs.Answers.Progress, proofs.Reached.goes_on}
-use Rattle.pas_acts.{specs.{Works.Later, Turns.RestsAt, Keepers.StandsStill, AtDesks.{here, told_if, ThreadActs}}, proofs.AtDesk.rests_still}
-use Rattle.pas_threads.specs.{Hands.standing_of_pass, Left.{crew_in, KeepsOrder}, Sessions.WorkerHas, Scavengers.CrewHasLeft, Turns.{Pushed, Told}, Lent.Shift}
-use Rattle.pas_threads.specs.Lent.{number_in, IsLent, AreLent, standing_at, home_at, SitsLent, AreOfCrew, TellAs, IsDeskAt, StopsLent, MayLeaveAll, SitsAmong}
+use Rattle.pas_acts.{specs.{Works.Later, Turns.RestsAt, Keepers.StandsStill}, proofs.AtDesk.rests_still}
+use Rattle.pas_threads.specs.{Hands.standing_of_pass, Left.{crew_in, KeepsOrder}, Sessions.WorkerHas, Scavengers.CrewHasLeft, Turns.Told, Lent.Shift}
+use Rattle.pas_threads.specs.Lent.{number_in, IsLent, AreLent, standing_at, home_at, SitsLent, AreOfCrew, TellAs, IsDeskAt, MayLeaveAll, SitsAmong}
 use Rattle.pas_threads.specs.{Lent.{standing_among, WorkerSits, IsButPlace, HasSeat, AreSeated, MayLeave, HasLeave, HaveLeave}, Crews.{crew, CrewAt, CrewSits}}
 use Rattle.pas_threads.{specs.{Crews.{CrewActs, CrewSat, CrewMayRise, CrewRose}, declared.workers.Worker.Worker}, proofs.Benched.{among_cases, among_here}}
 use Rattle.pas_threads.proofs.{Benched.{among_later, seated, row_part, rows_part, has_seat, member_seat, sits_as, keeps_order}, TakingTurns.{Stays, set_each}}
@@ -22,12 +22,12 @@ use Rattle.pas_records.specs.{Rooms.Records, declared.record.Record.Record}
 use Rattle.pas_core.proofs.Choosing.{steps_by_same}
 
 -- ---- who is among some actors
-among_at : (ks : List ℕ) (i : ℕ) → i < length ks → among ks (get_or ks i 0) ≡ true
+pub among_at : (ks : List ℕ) (i : ℕ) → i < length ks → among ks (get_or ks i 0) ≡ true
 among_at [] i lt = absurd (let bad : i < 0 = lt in omega (arith, bad))
 among_at (k ∷ ks) zero lt = among_here k k ks refl
 among_at (k ∷ ks) (suc i) lt = among_later k (get_or ks i 0) ks (among_at ks i (omega (arith, lt)))
 
-among_place : (ks : List ℕ) (k : ℕ) → among ks k ≡ true → (i : ℕ) × (i < length ks) × (get_or ks i 0 ≡ k)
+pub among_place : (ks : List ℕ) (k : ℕ) → among ks k ≡ true → (i : ℕ) × (i < length ks) × (get_or ks i 0 ≡ k)
 among_place [] k h = absurd (true≢false (sym h))
 among_place (n ∷ ks) k h =
     ⊎_elim (λ is. (0, omega arith, is)) (λ more. let rest = among_place ks k more in (suc rest.0, omega (arith, rest.1), rest.2)) (among_cases n k ks h)
@@ -51,26 +51,12 @@ crew_among : {s : Shift} {actors : List ℕ} → AreOfCrew s 0 (length s.idle) a
 crew_among {s} {actors} crew k = search (arith, both_true, among_here, among_later, among_at, among_place, among_cases)
 
 -- ---- a worker on the bench
--- it stands for what it noted, whatever others do
-still_among : (region : SharedRegion) (actors : List ℕ) (member : Member) (l m : Whole)
-    → StandsStill (standing_among region actors member) (standing_among region actors member) l m
-still_among region actors member l m = record { seat_is = refl; stands = λ at same. subst (SitsAmong region actors member) (sym same) at }
-
 -- A lent worker on a bench stays as it stands where others act and it takes no part.
 pub lent_stays : (region : SharedRegion) (actors : List ℕ) (s : Shift) → Stays (number_in s) (SitsLent region actors s)
 lent_stays region actors s i w q r parts caches names at =
-    record { member = at.member; present = at.present; rests = rests_still (still_among region actors at.member q.list r.list) parts caches at.rests }
-
--- .. at another desk with the same seat, where that one stands too
-rests_as : {f : Profile} {k : ℕ} {σ τ : Standing} {c : Cached} {out : Records} {later : Later} {p : Progress} → τ.seat ≡ σ.seat
-    → (σ.stands (part k p.list) p.list → τ.stands (part k p.list) p.list) → RestsAt f k σ c out later p → RestsAt f k τ c out later p
-rests_as seat to at = record { sits = sits_as seat to at.sits; cache = at.cache; spare = at.spare }
-
--- .. of a worker with the same cache and records
-same_worker : {f : Profile} {k : ℕ} {σ : Standing} {old new : Worker} {later : Later} {p : Progress} → IsButPlace old new
-    → RestsAt f k σ (cached old.cache) old.out later p → RestsAt f k σ (cached new.cache) new.out later p
-same_worker {f} {k} {σ} {old} {new} {later} {p} but at =
-    rw (but.out, but.cache) at
+    let still : StandsStill (standing_among region actors at.member) (standing_among region actors at.member) q.list r.list =
+    record { seat_is = refl; stands = λ stood same. subst (SitsAmong region actors at.member) (sym same) stood } in
+    record { member = at.member; present = at.present; rests = rests_still still parts caches at.rests }
 
 -- among more actors
 sits_wider : {region : SharedRegion} {one more : List ℕ} {f : Profile} {k : ℕ} {worker : Worker} {later : Later} {p : Progress}
@@ -80,9 +66,7 @@ sits_wider wider at = search arith
 -- ---- sitting down
 -- the notes of a pass are its member's
 noted_by : {pass : SharedPass} {member : Member} {v : View} → IsMemberOf pass member → view_of pass ≡ v → AreNotesOf member.actor v member.notes
-noted_by {pass} {member} {v} is view =
-    subst (AreNotesOf member.actor v) (sym is.notes)
-    (subst (λ j. AreNotesOf j v pass.notes) (sym is.actor) (subst (λ w. AreNotesOf pass.place.actor w pass.notes) view pass.noted))
+noted_by {pass} is view = rw (is.notes, is.actor, sym view) pass.noted
 
 sits_down : {region : SharedRegion} {f : Profile} {k : ℕ} {old new : Worker} {rows rows' : List Row} {later : Later} {p : Progress}
     → WorkerHas region f k old later p → HasSeat region old new rows rows' → WorkerSits region (all_actors rows') f k new later p
@@ -107,11 +91,6 @@ pub record SeatedSoFar (region : SharedRegion) (s : Shift) (i : ℕ) (old now : 
   pub left : (j : ℕ) (d : Worker) → i ≤ j → get_or now j d ≡ get_or old j d
   pub crew : AreOfCrew s 0 i (all_actors rows)
   pub tell : TellAs rows p.list
-
--- Before any lent worker sits down, the rows are those of the scavenger alone.
-pub seats_begin : {region : SharedRegion} {s : Shift} (old : List Worker) {rows : List Row} {p : Progress} → AreOfCrew s 0 0 (all_actors rows)
-    → TellAs rows p.list → SeatedSoFar region s 0 old old rows p
-seats_begin old crew tell = record { each = λ j d less within. absurd (omega (arith, less)); left = λ j d from. refl; crew = crew; tell = tell }
 
 crew_more : {s : Shift} {i : ℕ} {actors : List ℕ} (a : ℕ) → a ≡ number_in s i → AreOfCrew s 0 i actors → AreOfCrew s 0 (i + 1) (a ∷ actors)
 crew_more {s} {i} {actors} a is crew = search (arith, among_later, among_here, among_cases)
@@ -164,17 +143,12 @@ rests_there : {h : BenchHome} {desk : BenchDesk} {f : Profile} {k : ℕ} {worker
     → RestsAt f k (standing_on desk.place.bench w.member) (cached worker.cache) worker.out later p
 rests_there {h} {desk} {f} {k} {worker} {later} {p} at w = search (arith, tells_of, at_home) fits 400
 
--- what is so of the bench and the member is so of the desk
-at_desk : (At : Standing → Type 0) (desk : BenchDesk) {bench : Bench} {member : Member} → desk.place.bench ≡ bench → desk.place.member ≡ member
-    → At (standing_on bench member) → At (standing_at desk)
-at_desk At desk {bench} {member} b m at = subst (λ (x : Bench). At (standing_on x desk.place.member)) (sym b) (subst (λ y. At (standing_on bench y)) (sym m) at)
-
 -- A lent worker that has the desk rests there with its cache.
 pub rests_at : {h : BenchHome} {desk : BenchDesk} {f : Profile} {k : ℕ} {worker : Worker} {later : Later} {p : Progress} (now : BenchDesk) {member : Member}
     → worker.member ≡ Some member → now.place.bench ≡ desk.place.bench → now.place.member ≡ member → IsDeskAt h desk p
     → WorkerSits h.region h.row.actors f k worker later p → RestsAt f k (standing_at now) (cached worker.cache) worker.out later p
 rests_at {desk = desk} {f} {k} {worker} {later} {p} now is b m at w =
-    at_desk (λ σ. RestsAt f k σ (cached worker.cache) worker.out later p) now b (m ∙ same_Some _ _ (sym is ∙ w.present)) (rests_there at w)
+    rw (b, m ∙ same_Some _ _ (sym is ∙ w.present)) (rests_there at w)
 
 -- A desk whose bench and region are as before has the same home.
 pub home_moved : (desk now : BenchDesk) → now.region.now ≡ desk.region.now → now.place.bench ≡ desk.place.bench → home_at now ≡ home_at desk
@@ -188,38 +162,13 @@ pub may_again : {h : BenchHome} {desk : BenchDesk} {p : Progress} (mid : BenchDe
 may_again {h} {desk} {p} mid q risen is at home over same = search (arith, at_home, tells_of)
 
 -- a worker that sat at the desk sits on the bench beside it
-sits_beside : {h : _} (mid : BenchDesk) {f k : _} {worker : Worker} {later q : _} → home_at mid ≡ h → worker.member ≡ Some mid.place.member
+pub sits_beside : {h : _} (mid : BenchDesk) {f k : _} {worker : Worker} {later q : _} → home_at mid ≡ h → worker.member ≡ Some mid.place.member
     → RestsAt f k (standing_at mid) (cached worker.cache) worker.out later q → WorkerSits h.region h.row.actors f k worker later q
 sits_beside {h} mid {f} {k} {worker} {later} {q} home is at = record {
   member = mid.place.member;
   present = is;
   rests = search (arith, at_home) fits 400;
 }
-
--- the lent worker took its place there (`sat`), was stopped (`mid`), and gave the place back (`left`)
-pub was_stopped : {h : BenchHome} {f : Profile} {k n : ℕ} {bench bench' : Bench} {old new : Worker} {out out' : Records} {later : Later} {p : Progress}
-    (sat mid : BenchDesk)
-    → sat.place.bench ≡ bench → home_at mid ≡ h → bench' ≡ mid.place.bench
-    → new.member ≡ Some mid.place.member → new.requests ≡ old.requests → new.keeper ≡ old.keeper
-    → ((stopped : Bool)
-    × ThreadActs f k (StopsIdle k n ∷ []) [] (told_if stopped k) (here (standing_at sat) (cached old.cache) old.out)
-    (here (standing_at mid) (cached new.cache) new.out) later p
-    × Pushed 0 (told_if stopped k) out out')
-    → StopsLent h f k n bench bench' old new out out' later p
-was_stopped {h} {f} {k} {n} {bench} {bench'} {old} {new} {out} {out'} {later} {p} sat mid b home b2 present requests keeper did =
-    let at_mid : StopsLent h f k n sat.place.bench mid.place.bench old new out out' later p = record {
-      stopped = did.0;
-      before = sat.place.member;
-      after = mid.place.member;
-      does = did.1;
-      sits = sits_beside mid home present did.1.stands;
-      over = did.1.stands.sits.stood.1;
-      requests = requests;
-      keeper = keeper;
-      told = did.2;
-    } in
-    subst (λ x. StopsLent h f k n bench x old new out out' later p) (sym b2)
-    (subst (λ x. StopsLent h f k n x mid.place.bench old new out out' later p) b at_mid)
 
 -- ---- all sat down
 module _ {region s old new p rows : _} (bench : Bench) (looked : HasLooked rows (rows_on bench)) (all : AreSeated region s old new rows p) where
@@ -286,11 +235,6 @@ pub record LeftSoFar (region : SharedRegion) (s : Shift) (all : List ℕ) (base 
   pub crew : AreOfCrew s i (length s.idle) actors
   pub within : (k : ℕ) → among actors k ≡ true → among all k ≡ true
 
--- Before any lent worker leaves, all still sit on the bench.
-pub leaves_begin : {region : SharedRegion} {s : Shift} {all : List ℕ} {base : List Entry} (old : List Worker) {rows : List Row} {p : Progress}
-    → MayLeaveAll region s old all base rows p → LeftSoFar region s all base 0 old old rows p
-leaves_begin {all = all} old may = record { each = λ j d less within. absurd (omega (arith, less)); left = λ j d from. refl; actors = all; fresh = may.fresh; crew = may.crew; within = λ k its. its }
-
 module _ {region : SharedRegion} {s : Shift} {all : List ℕ} {base : List Entry} {i : ℕ} {old now : List Worker} {rows0 rows : List Row} {p : Progress}
     (d : Worker) (lt : i < length old) (may : MayLeaveAll region s old all base rows0 p)
     (so : LeftSoFar region s all base i old now rows p) where
@@ -325,7 +269,8 @@ module _ {region : SharedRegion} {s : Shift} {all : List ℕ} {base : List Entry
       let member = left.may.member in
       let same : next_sits.member ≡ member = same_Some _ _ (sym next_sits.present ∙ left.may.present) in
       let rests = subst (λ m. RestsAt s.profile (number_in s i) (standing_among region all m) (cached (get_or now i d).cache) (get_or now i d).out (s.lends i) p) same next_sits.rests in
-      record { has = left.has; rests = same_worker left.but (rests_as left.is.seat (λ stood. left.is.view ∙ row_says member rests.sits.actor) rests) }
+      let sits = sits_as left.is.seat (λ stood. left.is.view ∙ row_says member rests.sits.actor) rests.sits in
+      record { has = left.has; rests = rw (left.but.out, left.but.cache) record { sits = sits; cache = rests.cache; spare = rests.spare } }
 
   -- After one more lent worker left with its pass, one more has left.
   pub leaves_go_on : (w : Worker) {rows' : List Row} → length now ≡ length old → HasLeave region (get_or now i d) w rows rows'
@@ -395,10 +340,6 @@ module _ {region : SharedRegion} {s : Shift} {lent : List Worker} {p : Progress}
     -- The scavenger still sits in the row once all that were lent left it.
     pub own_sits : SitsInRow (first_row (rows_on left)) desk.place.member
     own_sits = search (arith, own_made)
-
-    -- The row is fresh once all that were lent left it.
-    pub fresh_row : IsFreshRow (rows_on left)
-    fresh_row = record { actors = have.actors; base = looked.base; is = have.fresh }
 
     -- The whole crew rose once the scavenger left, too: all have passes with what they made.
     pub all_rose : {end : Bench} {pass : SharedPass} → IsBenchOf region end → IsPassOf region pass → seat_of pass ≡ seat_of_member desk.place.member

@@ -1,23 +1,24 @@
 -- The keepers of workers: how those of a plan are made, how they stand on while others act and over a phase, what is gathered of them, and their last sweeps.
 use Rattle.std.proofs.Common.{◌≡◌, ℕ, suc, ◌+◌, ◌*◌, ◌<◌, ◌≤◌, ◌==◌, min, Bool, true, false, if◌then◌else◌, List, [], ◌∷◌, ◌++◌, length, get_or, slice_index}
 use Rattle.std.proofs.Common.{inl, inr, Option, Some, refl, ap, sym, ◌∙◌, subst, arith, ◌-◌, ◌^◌, eq-eqb, ne_eqb, ◌≢◌, None, append-nil, drop}
-use Rattle.std.proofs.{Common.{drop_of_length-le, length-drop}, Math.Nat.{le-min, mul-le-mul}, lemmas.{Bool.{cases_lt, cases_eq}, List.{get_or-map, drop_more}}}
+use Rattle.std.proofs.{Common.{drop_of_length-le, length-drop, is_some, true≢false}, Math.Nat.{le-min, mul-le-mul}, lemmas.Bool.{cases_lt, cases_eq}}
+use Rattle.std.proofs.lemmas.{Bool.false≢true, List.{get_or-map, drop_more}}
 use Rattle.pas_profile.specs.declared.profile.Profile.{Profile}
-use Rattle.pas_trace.specs.{Asked.{work_of, keeper_in}, Plans.{IsPlanOf, bounds_of}, EveryPlan.{kept_of_work, kept_records, records_of_what, records_of_ops}}
-use Rattle.pas_trace.specs.{EveryPlan.operations_of, declared.plan.{Op.Op, Plan.Plan, What.What}, Acts.{Act, Settles, act_kept, own_acts}, Reasons.cost_of_size}
-use Rattle.pas_trace.{specs.Reasons.actors_by, proofs.{EveryPlan.{every_plan, threads_among}, Costs.{small_cost, large_cost}, Keepers.keepers_few}}
+use Rattle.pas_trace.specs.{Plans.{IsPlanOf, bounds_of}, EveryPlan.{kept_records, records_of_ops, operations_of}, declared.plan.{Op.Op, Plan.Plan}, Acts.Act}
+use Rattle.pas_trace.{specs.{Acts.own_acts, Reasons.{cost_of_size, actors_by}}, proofs.{EveryPlan.{every_plan, threads_among}, Costs.{small_cost, large_cost}}}
+use Rattle.pas_trace.proofs.Keepers.{keepers_few}
 use Rattle.pas_guard.specs.{Books.{guards_in, size_of_book}, declared.book.GuardBook.GuardBook}
 use Rattle.pas_shared.specs.declared.{pass.SharedPass.SharedPass, region.SharedRegion.SharedRegion}
 use Rattle.pas_answers.{specs.{Replays.{threads_of, keepers_of}, Answers.Progress, Ways.{records_by, is_of}}, proofs.EachAct.{all_front, all_back}}
-use Rattle.pas_acts.specs.{PlanKeepers.{one_guarded, guarded_of, AreBooks}, Shares.owner_in, Keepers.{LaterKept, Keeping, OneKeeper, NoKeeper}}
-use Rattle.pas_acts.specs.Pairs.{for_guards, AreTriedBy, AreUnguarded, KeeperWaits, KeptPushed, for_guard, EachOfTwo, KeptStill, owed_of}
-use Rattle.pas_acts.proofs.{PlanFacts.is_guarded, PhaseActs.{own_thread, kept_thread, owner_of}, AtDesk.keeper_still}
+use Rattle.pas_acts.specs.{PlanKeepers.{guarded_of, AreBooks}, Shares.owner_in, Keepers.{LaterKept, Keeping, OneKeeper, NoKeeper}, Pairs.for_guards}
+use Rattle.pas_acts.{specs.Pairs.{AreTriedBy, AreUnguarded, KeeperWaits, KeptPushed, for_guard, EachOfTwo, KeptStill, owed_of}, proofs.PlanFacts.is_guarded}
+use Rattle.pas_acts.proofs.{PhaseActs.{own_thread, kept_thread, owner_of}, AtDesk.keeper_still}
 use Rattle.pas_threads.specs.{Kits.{IsKeptBy, AreKeptBy, most_records, HaveKeepers, TakesKeeper}, Pairs.{AreGuarded, kept_by_worker, IsKeeperOf, no_more}}
 use Rattle.pas_threads.specs.{Pairs.{owed_kept, keeper_at, IsLow, KeeperStands, KeeperRests, said_by_keeper, IsSilent}, declared.keeper.Keeper.Keeper}
 use Rattle.pas_threads.{specs.{declared.workers.Worker.Worker, Turns.HasSaid, Performing.{Round, ThreadDone}}, proofs.TakingTurns.each_pushed}
 use Rattle.pas_threads.proofs.Dealt.{some_item}
 use Rattle.pas_steps.specs.Lists.{part}
-use Rattle.pas_records.specs.{Rooms.records_in, declared.record.Record.Record}
+use Rattle.pas_records.specs.declared.record.Record.{Record}
 
 -- ---- what they may say
 two_least : (size : ℕ) → 2 ≤ cost_of_size size
@@ -28,15 +29,10 @@ guards_paid : (k : ℕ) (ops : List Op) → 2 * guarded_of k ops ≤ kept_record
 guards_paid k [] = omega arith
 guards_paid k (op ∷ ops) = search (arith, two_least, op.actor == k, guards_paid k ops)
 
-said_one : (f : Profile) (t : Bool) (what : What) (guards events records : ℕ) → events + 2 * guards ≤ records
-    → (if t then kept_of_work (work_of what) else 0) + events + 2 * ((if t then one_guarded (keeper_in what) else 0) + guards) ≤ records_of_what f what + records
--- By both values of the test.
-said_one f a what guards events records le = search arith
-
 -- .. and all that it may say is counted among the plan's records
 guards_said : (f : Profile) (k : ℕ) (ops : List Op) → kept_records k ops + 2 * guarded_of k ops ≤ records_of_ops f ops
 guards_said f k [] = omega arith
-guards_said f k (op ∷ ops) = said_one f (op.actor == k) op.what (guarded_of k ops) (kept_records k ops) (records_of_ops f ops) (guards_said f k ops)
+guards_said f k (op ∷ ops) = search (arith, op.actor == k, op.what, guards_said f k ops)
 
 -- so twice its bound suffices for it, and where that can't be counted in 32 bits, what can be counted does
 keeper_room : {text : List ℕ} {plan : Plan} (i room : ℕ) → IsPlanOf text plan → i < keepers_of plan → plan.total < 2 ^ 32
@@ -79,14 +75,24 @@ kept_more {bounds} {threads} {passes} {books} {workers} w is are one = record {
   each = each_pushed (λ (i : ℕ) (v : Worker). IsKeptBy passes books (most_records (slice_index bounds (threads + suc i))) i v.keeper) workers w is one are.each;
 }
 
+-- the keeper, where one is there
+pub kept_there : (o : Option Keeper) → is_some o ≡ true → (keeper : Keeper) × (o ≡ Some keeper)
+kept_there None is = absurd (false≢true is)
+kept_there (Some keeper) is = (keeper, refl)
+
+-- .. and where none is
+pub none_there : (o : Option Keeper) → is_some o ≡ false → o ≡ None
+-- With one and without one.
+none_there a is = search (arith, true≢false)
+
 -- There is a keeper where there is a pass for it, and none past them.
 kept_some : (passes : List SharedPass) (books : List GuardBook) (bound i : ℕ) (o : Option Keeper) → IsKeptBy passes books bound i o → i < length passes
-    → (keeper : Keeper) × (o ≡ Some keeper)
+    → is_some o ≡ true
 kept_some passes books bound i None kept lt = absurd (let none = ap length kept.0 in omega (arith, none, length-drop i passes, lt))
-kept_some passes books bound i (Some keeper) kept lt = (keeper, refl)
+kept_some passes books bound i (Some keeper) kept lt = refl
 
 kept_past : (passes : List SharedPass) (books : List GuardBook) (bound i : ℕ) (o : Option Keeper) → IsKeptBy passes books bound i o → length passes ≤ i
-    → o ≡ None
+    → is_some o ≡ false
 kept_past passes books bound i None kept le = refl
 kept_past passes books bound i (Some keeper) kept le = absurd (let some = ap length kept.0 in omega (arith, some, length-drop i passes, le))
 
@@ -97,10 +103,11 @@ guarded_so plan {bounds} {passes} {books} {workers} are size many =
     elim (cases_eq plan.guard 0) [
       | inl is ↦
           let zero_of : keepers_of plan ≡ 0 = ap (λ (t : Bool). if t then 0 else threads_of plan) (eq-eqb plan.guard 0 is) in
-          inr (zero_of, λ i d lt. kept_past passes books _ i (get_or workers i d).keeper (are.each i d lt) (omega (arith, size, zero_of)))
+          (false, zero_of, λ i d lt. kept_past passes books _ i (get_or workers i d).keeper (are.each i d lt) (omega (arith, size, zero_of)))
       | inr other ↦
           let all : keepers_of plan ≡ threads_of plan = ap (λ (t : Bool). if t then 0 else threads_of plan) (ne_eqb plan.guard 0 other) in
-          inl (omega (arith, all, many), λ i d lt. kept_some passes books _ i (get_or workers i d).keeper (are.each i d lt) (omega (arith, lt, many, all, size)))
+          let most : length workers ≡ length passes = omega (arith, many, all, size) in
+          (true, omega (arith, all, many), λ i d lt. kept_some passes books _ i (get_or workers i d).keeper (are.each i d lt) (omega (arith, lt, most)))
     ]
 
 -- The workers of a guarded plan have the keepers of the plan, each with its pass, its empty book and room.
@@ -112,7 +119,7 @@ have_keepers {plan = plan} passes books {workers} read few are made size many = 
   guarded_so plan are size many,
   λ i d e lt.
       let kept = are.each i e (omega (arith, lt, many, keepers_few plan)) in
-      let some = kept_some passes books _ i (get_or workers i e).keeper kept (omega (arith, lt, size)) in
+      let some = kept_there (get_or workers i e).keeper (kept_some passes books _ i (get_or workers i e).keeper kept (omega (arith, lt, size))) in
       let by = subst (IsKeptBy passes books (most_records (slice_index (bounds_of plan.bounds) (threads_of plan + suc i))) i) some.1 kept in
       let count = made.many in
       let b = some_item books i (omega (arith, lt, count)) in
@@ -129,18 +136,10 @@ have_keepers {plan = plan} passes books {workers} read few are made size many = 
 )
 
 -- ---- the acts of a thread
-own_if : (t : Bool) (op : Op) (xs ys : List Act)
-    → (if t then act_kept (keeper_in op.what) op ∷ (Settles op.actor ∷ (xs ++ ys)) else xs ++ ys)
-    ≡ (if t then act_kept (keeper_in op.what) op ∷ (Settles op.actor ∷ xs) else xs) ++ ys
--- By both values of the test.
-own_if a op xs ys = search arith
-
 -- A thread's own acts of operations and later ones are those of both, one after the other.
 own_acts_both : (k : ℕ) (ops left : List Op) → own_acts k (ops ++ left) ≡ own_acts k ops ++ own_acts k left
 own_acts_both k [] left = refl
-own_acts_both k (op ∷ ops) left =
-    ap (λ acts. if op.actor == k then act_kept (keeper_in op.what) op ∷ (Settles op.actor ∷ acts) else acts) (own_acts_both k ops left)
-    ∙ own_if (op.actor == k) op (own_acts k ops) (own_acts k left)
+own_acts_both k (op ∷ ops) left = search (arith, op.actor == k, own_acts_both k ops left)
 
 guards_both : (xs ys : List Act) (later : LaterKept) → for_guards (xs ++ ys) later ≡ for_guards xs (for_guards ys later)
 guards_both [] ys later = refl
@@ -192,12 +191,7 @@ keeper_is workers i d lt = get_or-map (λ (w : Worker). w.keeper) workers i d No
 
 -- ---- what it said
 pub kept_none : (k : ℕ) (said : List Record) (kept : Keeping) → records_by k said ≡ [] → KeptPushed k said kept kept
-kept_none k said NoKeeper none = none
-kept_none k said (OneKeeper has) none = (sym (append-nil (records_in has.out)) ∙ ap (λ (rs : List Record). records_in has.out ++ rs) (sym none), refl, refl)
-
--- what two actors said is just what each said
-first_of_two : (k : ℕ) (r : Record) (rs : List Record) (t : Bool) → is_of k r ≡ t → records_by k (r ∷ rs) ≡ (if t then r ∷ records_by k rs else records_by k rs)
-first_of_two k r rs t is = ap (λ (s : Bool). if s then r ∷ records_by k rs else records_by k rs) is
+kept_none k said a none = search (arith, append-nil)
 
 -- What two actors alone said is as many records as each of them said, taken together.
 pub two_counted : (k keeper : ℕ) (said : List Record) → k ≢ keeper → EachOfTwo k keeper said
@@ -206,12 +200,10 @@ two_counted k keeper [] apart each = omega arith
 two_counted k keeper (r ∷ rs) apart each =
     let rest = two_counted k keeper rs apart each.1 in
     elim each.0 [
-      | inl of ↦
-          let one = ap length (first_of_two k r rs true (of k ∙ eq-eqb k k refl)) in
-          omega (arith, rest, one, ap length (first_of_two keeper r rs false (of keeper ∙ ne_eqb k keeper apart)))
+      | inl of ↦ search (arith, rest, of k ∙ eq-eqb k k refl, of keeper ∙ ne_eqb k keeper apart, is_of k r, is_of keeper r, true≢false)
       | inr of ↦
-          let one = ap length (first_of_two k r rs false (of k ∙ ne_eqb keeper k (λ (is : keeper ≡ k). apart (sym is)))) in
-          omega (arith, rest, one, ap length (first_of_two keeper r rs true (of keeper ∙ eq-eqb keeper keeper refl)))
+          let other = of k ∙ ne_eqb keeper k (λ (is : keeper ≡ k). apart (sym is)) in
+          search (arith, rest, other, of keeper ∙ eq-eqb keeper keeper refl, is_of k r, is_of keeper r, true≢false)
     ]
 
 -- ---- what is gathered of it
@@ -243,62 +235,38 @@ stands_for {region} {f} {k} {later} {p} o keeper is of waits = search arith
 
 -- There are no more keepers than workers.
 pub most_keepers : {keepers : ℕ} (old : List Worker) → AreGuarded keepers old → keepers ≤ length old
-most_keepers old a = search arith
+most_keepers old (true, many, all) = omega (arith, many)
+most_keepers old (false, none, all) = omega (arith, none)
 
 -- ---- whose hands a keeper is in
 pub kept_hands : (threads : ℕ) (ops : List Op) (i : ℕ) → suc i ≤ threads → owner_in threads ops (threads + suc i) ≡ owner_in threads ops (suc i)
 kept_hands threads ops i most = owner_of threads ops (threads + suc i) (suc i) (kept_thread threads (suc i) (omega arith)) ∙ sym (owner_of threads ops (suc i) (suc i) (own_thread threads (suc i) most))
 
 -- ---- there is a keeper still, or there is none
-abbrev pub AreAlike : Option Keeper → Option Keeper → Type 0
-AreAlike None None = Unit {0}
-AreAlike None (Some new) = ⊥
-AreAlike (Some old) None = ⊥
-AreAlike (Some old) (Some new) = Unit {0}
-
-alike_itself : (o : Option Keeper) → AreAlike o o
--- With one and without one.
-alike_itself a = search arith
-
 -- Keepers of which one is the other with more said are alike: both or neither is there.
-pub alike_pushed : (k : ℕ) (said : List Record) (old new : Option Keeper) → KeptPushed k said (kept_by_worker old) (kept_by_worker new) → AreAlike old new
+pub alike_pushed : (k : ℕ) (said : List Record) (old new : Option Keeper) → KeptPushed k said (kept_by_worker old) (kept_by_worker new)
+    → is_some new ≡ is_some old
 alike_pushed k said a b pushed = search arith
 
 -- Keepers of which one is the other after it was gathered are alike.
-pub alike_said : (old new : Option Keeper) → HasSaid old new → AreAlike old new
+pub alike_said : (old new : Option Keeper) → HasSaid old new → is_some new ≡ is_some old
 alike_said a b said = search arith
-
--- A keeper that is as it was is alike to itself.
-pub alike_same : {old new : Option Keeper} → new ≡ old → AreAlike old new
-alike_same {old} same = subst (AreAlike old) (sym same) (alike_itself old)
-
-has_alike : (old new : Option Keeper) → AreAlike old new → (keeper : Keeper) × (old ≡ Some keeper) → (keeper : Keeper) × (new ≡ Some keeper)
-has_alike None new alike has = absurd (let bad : None ≡ Some has.0 = has.1 in cc)
-has_alike (Some old) None alike has = absurd alike
-has_alike (Some old) (Some new) alike has = (new, refl)
-
-none_alike : (old new : Option Keeper) → AreAlike old new → old ≡ None → new ≡ None
--- With one and without one.
-none_alike a new alike b = search arith
 
 -- Workers whose keepers are alike are guarded where the others were.
 pub guarded_alike : {keepers : ℕ} (old new : List Worker) → length new ≡ length old
-    → ((i : ℕ) (d : Worker) → i < length old → AreAlike (get_or old i d).keeper (get_or new i d).keeper) → AreGuarded keepers old → AreGuarded keepers new
-guarded_alike old new many alike (inl all) = inl (
-  all.0 ∙ sym many,
-  λ i d lt. let here : i < length old = omega (arith, lt, many) in
-      has_alike (get_or old i d).keeper (get_or new i d).keeper (alike i d here) (all.1 i d here),
+    → ((i : ℕ) (d : Worker) → i < length old → is_some (get_or new i d).keeper ≡ is_some (get_or old i d).keeper) → AreGuarded keepers old
+    → AreGuarded keepers new
+guarded_alike old new many alike (guarded, size, all) = (
+  guarded,
+  size ∙ ap (λ (n : ℕ). if guarded then n else 0) (sym many),
+  λ i d lt. let here : i < length old = omega (arith, lt, many) in alike i d here ∙ all i d here,
 )
-guarded_alike old new many alike (inr none) = search arith fits 400
 
 -- ---- what it said in all
 -- What a keeper said is the same where its records are.
 pub pushed_alike : (k : ℕ) (said told : List Record) (old new : Keeping) → records_by k said ≡ records_by k told → KeptPushed k said old new
     → KeptPushed k told old new
-pushed_alike k said told NoKeeper NoKeeper same pushed = sym same ∙ pushed
-pushed_alike k said told NoKeeper (OneKeeper new) same pushed = pushed
-pushed_alike k said told (OneKeeper old) NoKeeper same pushed = pushed
-pushed_alike k said told (OneKeeper old) (OneKeeper new) same pushed = (pushed.0 ∙ ap (λ rs. records_in old.out ++ rs) same, pushed.1, pushed.2)
+pushed_alike k said told a b same pushed = search arith
 
 pub said_then : (k : ℕ) (said : List Record) (old new : Option Keeper) → KeptPushed k said (kept_by_worker old) (kept_by_worker new) → IsSilent old
     → said_by_keeper new ≡ records_by k said

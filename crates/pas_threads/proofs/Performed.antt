@@ -1,44 +1,36 @@
 -- What hands did in a phase, and what the names are after it.
-use Rattle.std.proofs.Common.{◌≡◌, ℕ, ◌+◌, ◌<◌, ◌==◌, ◌||◌, ◌⊎◌, inl, inr, Bool, true, false, if◌then◌else◌, List, [], ◌∷◌, set, length, get_or, Option, Some}
-use Rattle.std.proofs.Common.{None, refl, ap, sym, ◌∙◌, subst, arith, ◌≤◌, ◌++◌, eq-eqb, ◌≢◌, zero, suc, ◌-◌, All, vec_capacity, append-nil, true≢false, le-leb}
-use Rattle.std.proofs.{Common.{ne_eqb, not}, lemmas.{List.get_or_default, Bool.{cases_eq, false≢true, or_right, or_cases, cases_Bool, cases_lt}}}
-use Rattle.std.{proofs.lemmas.Bool.{not_from_false, or_parts, not-true, lt-leb}, specs.List.filter}
+use Rattle.std.proofs.Common.{⊎_elim, ◌≡◌, ℕ, ◌+◌, ◌<◌, ◌==◌, ◌⊎◌, inl, inr, Bool, true, false, if◌then◌else◌, List, [], ◌∷◌, set, length, get_or, Option, Some}
+use Rattle.std.proofs.Common.{None, refl, ap, sym, ◌∙◌, subst, arith, ◌≤◌, ◌++◌, eq-eqb, ◌≢◌, zero, suc, ◌-◌, All, append-nil, true≢false, ne_eqb, not}
+use Rattle.std.proofs.lemmas.{List.get_or_default, Bool.{cases_eq, false≢true, or_right, or_cases, cases_Bool, cases_lt, not-true, lt-leb}}
 use Rattle.pas_profile.specs.declared.{profile.Profile.Profile, name.Block.Block}
 use Rattle.pas_trace.specs.{EveryPlan.{is_asked, asked_after, AreSound, asked_with, asked_by, IsActorOf}, Asked.{work_of, of_task, request_of}}
 use Rattle.pas_trace.specs.{declared.plan.{What.What, Chore.Chore, Work.Work, Op.Op}, Acts.{Act, act_kept, is_active, idle_threads, idle_stops, acts_of_chore}}
-use Rattle.pas_trace.specs.Acts.{acts_of_work, acts_of_ops, own_acts, numbers_from, scavenger_acts, operation_in, asked_after_operation, acts_of_op}
+use Rattle.pas_trace.specs.Acts.{acts_of_work, acts_of_ops, own_acts, scavenger_acts, operation_in, asked_after_operation, acts_of_op}
 use Rattle.pas_trace.proofs.{ThreadsInOrder.numbers_count, EveryPlan.kept_with}
-use Rattle.pas_answers.specs.{Answers.{Named, Progress, standing_for}, Names.{block_named, names_held}, Reaching.Reaches, Calls.{OnlyAsked, block_behind}}
-use Rattle.pas_answers.{specs.{Calls.{MayStand, AreKnown}, Fit.{AreBelow, KeepsAbove}, declared.names.Names.Names}, proofs.EachAct.all_back}
+use Rattle.pas_answers.specs.{Answers.{Named, Progress, standing_for}, Names.{block_named, names_held}, Calls.{OnlyAsked, block_behind, MayStand, AreKnown}}
+use Rattle.pas_answers.{specs.{Fit.{AreBelow, KeepsAbove}, declared.names.Names.Names}, proofs.EachAct.all_back}
 use Rattle.pas_acts.specs.NameBooks.{requests_in, room_for, names_of, known_in, Requests, names_asked, AreWithin, NamesAt, came_to, name_asked}
 use Rattle.pas_acts.specs.{declared.names.NameBook.NameBook, Shares.{owner_in, IsWoven, acts_by, AreAmong, IsRequestOf, NoneAsks, asked_after_act}}
-use Rattle.pas_acts.specs.{Shares.{asked_after_acts, actor_of_act, AreInHand, thread_in}, Pairs.{PairWorks, KeeperWaits, KeptPushed}}
-use Rattle.pas_acts.proofs.{Naming.{sound_front, are_known, sound_back}, AtDesk.sits_for, PhaseActs.{acts_are_shared, own_thread, owner_of, none_own}}
-use Rattle.pas_acts.proofs.{ActsLeft.threads_alike, ActsOfPlan.back_below, Noting.{asks, asks_more}}
+use Rattle.pas_acts.{specs.{Shares.{asked_after_acts, AreInHand, thread_in}, Pairs.{PairWorks, KeeperWaits}}, proofs.Naming.{sound_front, are_known}}
+use Rattle.pas_acts.proofs.{Naming.sound_back, AtDesk.sits_for, PhaseActs.{acts_are_shared, own_thread, owner_of, none_own}, ActsOfPlan.back_below, Noting.asks}
+use Rattle.pas_acts.proofs.Noting.{asks_more}
 use Rattle.pas_threads.specs.{declared.{workers.Worker.Worker, scavenger.Scavenger.Scavenger, keeper.Keeper.Keeper}, Taken.{IsEmptied, HasTaken, HandsOver}}
-use Rattle.pas_threads.specs.{Taken.HasRequest, Hands.{kept_by, WorkerAt, Did}, Sessions.WorkerHas, Turns.{Came, Told, TookNoPart}, Crews.{Crew, CrewDid}}
-use Rattle.pas_threads.specs.{Scavengers.{crew_of, DidScavenge, ScavengerStands}, Lent.{Shift, IsLent, AreLent}, Left.{pair_in, HasLeft, keeper_actors}}
-use Rattle.pas_threads.specs.{Dealing.{picked, count_of, is_in, is_out}, Performing.{Round, idle_in, IsReady, ThreadDone, ScavengerDone, PaysFor, PieceLeft}}
-use Rattle.pas_threads.{specs.Pairs.{kept_by_worker, IsKeeperOf, owed_kept, MayDoPhase, DidPhase, PairStands, PairDid}, proofs.TakingTurns.set_each}
-use Rattle.pas_threads.proofs.{TakingTurns.{came_none, pushed_none}, Benched.{among_cases, among_here, among_later}, Dealt.{some_item, picked_many, picked_at}}
-use Rattle.pas_threads.proofs.{Dealt.{picked_pairs, number_at, idle_distinct, idle_within, filter_picked}, Keepers.{two_counted, owed_same, owed_still}}
-use Rattle.pas_threads.proofs.Keepers.{kept_none, still_same, waits_still, kept_hands}
-use Rattle.pas_bits.specs.{Masks.is_set, declared.mask.Mask4.Mask4}
+use Rattle.pas_threads.specs.{Taken.HasRequest, Hands.{kept_by, standing_of_pass, WorkerAt, Did}, Sessions.WorkerHas, Turns.{Came, Told, TookNoPart}}
+use Rattle.pas_threads.specs.{Crews.{Crew, CrewAt, CrewDid}, Scavengers.{crew_of, DidScavenge, ScavengerStands}, Lent.{Shift, IsLent, AreLent}, Left.pair_in}
+use Rattle.pas_threads.specs.{Left.{crew_in, HasLeft, keeper_actors}, Dealing.{count_of, is_in, is_out, AreDealt}, Performing.{Round, idle_in, IsReady}}
+use Rattle.pas_threads.specs.{Performing.{ThreadDone, PaysFor, PieceLeft}, Pairs.{kept_by_worker, owed_kept, MayDoPhase, DidPhase, DidPhases, PairStands}}
+use Rattle.pas_threads.{specs.Pairs.PairDid, proofs.{TakingTurns.{set_each, came_none}, Benched.{among_cases, among_here, among_later}, CrewSits.among_at}}
+use Rattle.pas_threads.proofs.{CrewSits.among_place, Dealt.{some_item, picked_many, dealt_at, dealt_from, idle_at, idle_from, idle_are, idle_distinct}}
+use Rattle.pas_threads.proofs.{Keepers.{two_counted, owed_same, owed_still, kept_none, still_same, waits_still, kept_hands}, ByCrew.{came_as, did_none}}
 use Rattle.pas_shared.specs.{declared.region.SharedRegion.SharedRegion, Ruled.among}
 
 -- ---- all workers, one after the other
 -- a request of these has the name, and what it came to is the same whatever else is said; or none has it
-either_if : (t : Bool) (b : Option Block) (s : Bool) (o : Option (Option Block))
-    → ((s ≡ true) × ((x y : Option Block) → came_to o x ≡ came_to o y)) ⊎ ((s ≡ false) × (o ≡ None))
-    → ((t || s ≡ true) × ((x y : Option Block) → came_to (if t then Some b else o) x ≡ came_to (if t then Some b else o) y))
-    ⊎ ((t || s ≡ false) × ((if t then Some b else o) ≡ None))
-either_if a b s o rest = search arith
-
 has_or_not : (rs : List Named) (n : ℕ)
     → ((is_asked (names_of rs) n ≡ true) × ((x y : Option Block) → came_to (standing_for rs n) x ≡ came_to (standing_for rs n) y))
     ⊎ ((is_asked (names_of rs) n ≡ false) × (standing_for rs n ≡ None))
 has_or_not [] n = inr (refl, refl)
-has_or_not (r ∷ rs) n = either_if (r.name == n) r.block (is_asked (names_of rs) n) (standing_for rs n) (has_or_not rs n)
+has_or_not (r ∷ rs) n = search (arith, r.name == n, has_or_not rs n)
 
 -- .. as far as the workers before this place
 abbrev pub TakenUpTo : NameBook → NameBook → List Worker → ℕ → ℕ → Type 0
@@ -101,10 +93,9 @@ new_after a asked ns n is = search (arith, or_cases)
 
 asked_then : (acts : List Act) (asked : List ℕ) (n : ℕ) → is_asked (names_asked acts) n ≡ true → is_asked (asked_after_acts acts asked) n ≡ true
 asked_then [] asked n is = absurd (false≢true is)
-asked_then (act ∷ acts) asked n is = elim (new_after (operation_in act) asked (names_asked acts) n is) [
-  | inl here ↦ kept_acts acts (asked_after_act act asked) n here
-  | inr later ↦ asked_then acts (asked_after_act act asked) n later
-]
+asked_then (act ∷ acts) asked n is =
+    ⊎_elim (kept_acts acts (asked_after_act act asked) n) (asked_then acts (asked_after_act act asked) n)
+    (new_after (operation_in act) asked (names_asked acts) n is)
 
 -- ---- the acts of a phase
 after_both : (xs ys : List Act) (asked : List ℕ) → asked_after_acts (xs ++ ys) asked ≡ asked_after_acts ys (asked_after_acts xs asked)
@@ -137,9 +128,8 @@ none_stops n m [] = tt
 none_stops n m (k ∷ idle) = (λ bad. bad, none_stops n m idle)
 
 none_chore : (n : ℕ) (idle : List ℕ) (chore : Chore) → NoneAsks n (acts_of_chore idle chore)
-none_chore n idle (Chore.Tick epoch) = (λ bad. bad, tt)
-none_chore n idle Chore.Pass = (λ bad. bad, tt)
 none_chore n idle (Chore.Idle m) = (λ bad. bad, none_stops n m idle)
+none_chore n idle _ = (λ bad. bad, tt)
 
 none_work : (n : ℕ) (idle : List ℕ) (op : Op) (work : Work) → (IsRequestOf n op.what → ⊥) → NoneAsks n (acts_of_work idle op work)
 none_work n idle op (Work.Own task) none = search (arith, operation_kept)
@@ -151,10 +141,7 @@ asks_own f n k what actor is = search (arith, eq-eqb)
 
 front_asked : (ms ns : List ℕ) (n : ℕ) → is_asked ms n ≡ true → is_asked (ms ++ ns) n ≡ true
 front_asked [] ns n is = absurd (false≢true is)
-front_asked (m ∷ ms) ns n is = elim (or_cases (m == n) (is_asked ms n) is) [
-  | inl here ↦ ap (λ (t : Bool). t || is_asked (ms ++ ns) n) here
-  | inr later ↦ or_right (m == n) (is_asked (ms ++ ns) n) (front_asked ms ns n later)
-]
+front_asked (m ∷ ms) ns n is = search (arith, m == n, front_asked ms ns n)
 
 back_asked : (ms ns : List ℕ) (n : ℕ) → is_asked ns n ≡ true → is_asked (ms ++ ns) n ≡ true
 back_asked [] ns n is = is
@@ -180,7 +167,7 @@ active_asks k (op ∷ ops) n is = search (arith, op.actor == k, active_asks k op
 -- ---- what a worker hands over
 hands_over : {f phase book k keeper σ σ' kept kept' later more p : _} (old new : Worker) (names : List Named)
     → (did : PairWorks f k keeper (own_acts k phase) [] σ σ' (kept_by book old) (kept_by book new) kept kept' later more p) → requests_in old.requests ≡ []
-    → AreAmong did.reached.names names → HandsOver f phase book k new names
+    → AreAmong did.reached.names names → HandsOver f phase book k new.requests names
 hands_over {f} {phase} {book} {k} {p = p} old new names did none among =
     let noted = did.noted ∙ ap (λ (rs : List Named). names_of rs ++ names_asked (own_acts k phase)) none in
     let knows = did.stands.thread.names in
@@ -195,7 +182,7 @@ hands_over {f} {phase} {book} {k} {p = p} old new names did none among =
 
 -- a worker with no operation in the phase hands over nothing
 hands_nothing : {f : Profile} {phase : List Op} {book : NameBook} {k : ℕ} (worker : Worker) (names : List Named) → requests_in worker.requests ≡ []
-    → own_acts k phase ≡ [] → HandsOver f phase book k worker names
+    → own_acts k phase ≡ [] → HandsOver f phase book k worker.requests names
 hands_nothing {f} {phase} {book} {k} worker names none idle = search (arith, false≢true)
 
 -- The names for which a thread asks in a phase are below the bound of all names of the phase.
@@ -207,66 +194,57 @@ names_within limit k (op ∷ ops) below =
 -- ---- after a phase
 
 -- Each worker handed over, and each thread with an operation in the phase has one.
-module _ {f : Profile} {book : NameBook} {p q : Progress} {own : ℕ → Progress} (threads : ℕ) (phase rest : List Op) (book1 book2 : NameBook) (numbers : List ℕ)
+module _ {f : Profile} {book : NameBook} {p q : Progress} {own : ℕ → Progress} (threads : ℕ) (phase rest : List Op) (book1 book2 : NameBook)
     (workers : List Worker) (at : NamesAt f (phase ++ rest) book p) (are : q.names ≡ p.names)
     (woven : IsWoven f (owner_in threads phase) (acts_of_ops (idle_threads threads phase) phase) at.asked q own) (noted : book1.names ≡ book.names)
-    (each : (i : ℕ) (d : Worker) → i < length workers → HandsOver f phase book1 (get_or numbers i 0) (get_or workers i d) woven.reached.names)
-    (all : (k : ℕ) → 1 ≤ k → is_active phase k ≡ true → (i : ℕ) × (i < length workers) × (get_or numbers i 0 ≡ k)) (taken : HasTaken book1 book2 workers) where
+    (each : (i : ℕ) (d : Worker) → i < length workers → HandsOver f phase book1 (suc i) (get_or workers i d).requests woven.reached.names)
+    (all : (k : ℕ) → is_active phase k ≡ true → k ≤ length workers) (taken : HasTaken book1 book2 workers) where
   abbrev after : List Named
   after = woven.reached.names
 
   -- what no request was for stands for what it did
   stays : (n : ℕ) → ((i : ℕ) (d : Worker) → i < length workers → HasRequest (get_or workers i d) n → ⊥) → standing_for after n ≡ standing_for p.names n
   stays n none = woven.same_names n (none_ask f n (idle_threads threads phase) at.asked phase (sound_front f at.asked phase rest at.sound) (λ k some is.
-      let who = all k some (active_asks k phase n is) in
-      let d = some_item workers who.0 who.1 in
-      none who.0 d who.1 (ap (λ (ns : List ℕ). is_asked ns n) ((each who.0 d who.1).noted ∙ ap (λ (j : ℕ). names_asked (own_acts j phase)) who.2) ∙ is)))
+      let within = all k (active_asks k phase n is) in
+      let i = k - 1 in
+      let its : suc i ≡ k = omega (arith, some) in
+      let lt : i < length workers = omega (arith, within, its) in
+      let d = some_item workers i lt in
+      none i d lt (ap (λ (ns : List ℕ). is_asked ns n) ((each i d lt).noted ∙ ap (λ (j : ℕ). names_asked (own_acts j phase)) its) ∙ is)))
       ∙ ap (λ (ns : List Named). standing_for ns n) are
 
-  was : (n : ℕ) → block_named book1.names n ≡ block_named book.names n
-  was n = ap (λ (t : Names). block_named t n) noted
-
-  book_tells : (n : ℕ) → block_named book2.names n ≡ block_behind (standing_for after n)
-  book_tells n = elim (taken n) [
+  -- the book tells what it stands for, and that is a block of the region
+  book_says : (n : ℕ) → (block_named book2.names n ≡ block_behind (standing_for after n)) × MayStand f (block_named book2.names n)
+  book_says n = elim (taken n) [
     | inl one ↦
         let d = some_item workers one.0 one.1 in
         let has = one.2 d in
         let says = (each one.0 d one.1).says n has.0 in
-        has.1 ∙ says.2 ∙ sym (ap block_behind says.1)
-    | inr none ↦ none.1 ∙ was n ∙ at.tells n ∙ ap block_behind (sym (stays n none.0))
-  ]
-
-  book_stands : (n : ℕ) → MayStand f (block_named book2.names n)
-  book_stands n = elim (taken n) [
-    | inl one ↦
-        let d = some_item workers one.0 one.1 in
-        let has = one.2 d in
-        let says = (each one.0 d one.1).says n has.0 in
-        subst (MayStand f) (sym (has.1 ∙ says.2)) says.3
-    | inr none ↦ subst (MayStand f) (sym (none.1 ∙ was n)) (at.stand n)
+        (has.1 ∙ says.2 ∙ sym (ap block_behind says.1), subst (MayStand f) (sym (has.1 ∙ says.2)) says.3)
+    | inr none ↦
+        let same = none.1 ∙ ap (λ (t : Names). block_named t n) noted in
+        (same ∙ at.tells n ∙ ap block_behind (sym (stays n none.0)), subst (MayStand f) (sym same) (at.stand n))
   ]
 
   asked_is : asked_after_acts (acts_of_ops (idle_threads threads phase) phase) at.asked ≡ asked_by at.asked phase
   asked_is = after_ops (idle_threads threads phase) phase at.asked
 
-  -- After a phase the book says of each name what it stands for in the woven replay.
-  pub names_after : names_held book2.names ≡ names_held book1.names → NamesAt f rest book2 woven.reached
-  names_after held = record {
-    asked = asked_by at.asked phase;
-    sound = sound_back f at.asked phase rest at.sound;
-    above = all_back (KeepsAbove f) phase rest at.above;
-    below = subst (λ (limit : ℕ). AreBelow limit rest) (sym (held ∙ ap names_held noted)) (back_below (names_held book.names) phase rest at.below);
-    tells = book_tells;
-    stand = book_stands;
-    known = subst (λ (ns : List ℕ). AreKnown ns after) asked_is
-        (are_known f (acts_of_ops (idle_threads threads phase) phase) at.asked q woven.reached woven.reaches (subst (AreKnown at.asked) (sym are) at.known));
-    only = subst (λ (ns : List ℕ). OnlyAsked ns after) asked_is woven.only_asked;
-  }
-
-  -- .. and these were asked for then
+  -- After a phase the book says of each name what it stands for in the woven replay, and these were asked for then.
   pub names_then : names_held book2.names ≡ names_held book1.names → (names : NamesAt f rest book2 woven.reached) × (names.asked ≡ asked_by at.asked phase)
-  unfolding names_after
-  names_then held = (names_after held, refl)
+  names_then held = (
+    record {
+      asked = asked_by at.asked phase;
+      sound = sound_back f at.asked phase rest at.sound;
+      above = all_back (KeepsAbove f) phase rest at.above;
+      below = subst (λ (limit : ℕ). AreBelow limit rest) (sym (held ∙ ap names_held noted)) (back_below (names_held book.names) phase rest at.below);
+      tells = λ n. (book_says n).0;
+      stand = λ n. (book_says n).1;
+      known = subst (λ (ns : List ℕ). AreKnown ns after) asked_is
+          (are_known f (acts_of_ops (idle_threads threads phase) phase) at.asked q woven.reached woven.reaches (subst (AreKnown at.asked) (sym are) at.known));
+      only = subst (λ (ns : List ℕ). OnlyAsked ns after) asked_is woven.only_asked;
+    },
+    refl,
+  )
 
 -- a thread none of whose acts is left has its pass, and rests with it
 has_left : {region book f k worker later p : _} → WorkerAt region book f k [] worker later p → WorkerHas region f k worker later p
@@ -307,32 +285,6 @@ active_done {r = r} k old new at some phase =
     )
 
 -- ---- a thread without one
--- its requests stay, of which there is none
-idle_noted : (k : ℕ) (ops : List Op) (old new : Worker) → is_active ops k ≡ false → new.requests ≡ old.requests
-    → names_of (requests_in new.requests) ≡ names_of (requests_in old.requests) ++ names_asked (own_acts k ops)
-idle_noted k ops old new off same =
-    cc (none_own k ops off, append-nil (names_of (requests_in old.requests)))
-
--- while the scavenger does nothing, nothing comes of it
-idle_stayed : {region : SharedRegion} {r : Round} (k : ℕ) (old new : Worker) → is_active r.ops k ≡ false
-    → PairStands region r.book r.profile r.threads k (own_acts k r.ops) old (r.later k) (r.more k) r.start → new ≡ old
-    → ThreadDone region r k old new [] r.start
-idle_stayed {region} {r} k old new off at same =
-    let none = none_own k r.ops off in
-    let kept = kept_by_worker old.keeper in
-    subst (λ (w : Worker). ThreadDone region r k old w [] r.start) (sym same) record {
-      stands = has_left (subst (λ (acts : List Act). WorkerAt region r.book r.profile k acts old (r.later k) r.start) none at.thread);
-      of = at.of;
-      waits = subst (λ (acts : List Act). KeeperWaits r.profile (r.threads + k) acts kept (r.more k) r.start) none at.waits;
-      told = pushed_none refl;
-      kept_told = kept_none (r.threads + k) [] kept refl;
-      still = still_same (r.threads + k) kept r.start r.start refl;
-      paid = inr (refl, refl);
-      noted = idle_noted k r.ops old old off refl;
-      room_noted = refl;
-      hands_over = λ empty names among. hands_nothing old names empty none;
-    }
-
 -- what the scavenger's worker goes by in the phase
 abbrev pub shift_of : Round → Shift
 shift_of r = record {
@@ -343,7 +295,7 @@ shift_of r = record {
   lends = λ i. r.later (get_or (idle_in r) i 0);
 }
 
--- .. and it is lent to the scavenger, with which it stands at this rank. Its keeper does nothing
+-- It is lent to the scavenger, with which it stands at this rank. Its keeper does nothing.
 lent_done : {region : SharedRegion} {r : Round} {acts : List Act} {has has' : Crew} (k n : ℕ) (old new : Worker) → 1 ≤ k → is_active r.ops k ≡ false
     → PairStands region r.book r.profile r.threads k (own_acts k r.ops) old (r.later k) (r.more k) r.start
     → (did : CrewDid region (shift_of r) acts [] has has' r.start)
@@ -354,77 +306,65 @@ lent_done {region} {r} {acts} {has} {has'} k n old new some off stood did lt lt'
     let said = did.came.said in
     let keeper = r.threads + k in
     let kept = kept_by_worker old.keeper in
-    let at : IsLent region (shift_of r) n (get_or has'.lent n new) q = did.stands.lent.each n new lt' in
     let told : Told k said old new = rw (is old, was old, number) at (did.lent n old lt) in
     let apart : TookNoPart keeper said r.start q = did.others keeper (λ same. omega (arith, same, some))
-    (λ i within same. (let most = idle_within r.threads r.ops i within in omega (arith, most, same, some))) in
+    (λ i within same. (let at = idle_from r.threads r.ops i within in omega (arith, at.1, at.4, same, some))) in
     let acts_none = none_own k r.ops off in
     let waits : KeeperWaits r.profile keeper [] kept (r.more k) q = waits_still r.profile keeper [] old.keeper (r.more k) r.start q apart.part_is
     (ap (λ books. books keeper) did.books) (subst (λ xs. KeeperWaits r.profile keeper xs kept (r.more k) r.start) acts_none stood.waits) in
-    let same = sym told.keeper in
     record {
-      stands = subst (λ (j : ℕ). WorkerHas region r.profile j new (r.later j) q) number (subst (λ (w : Worker). IsLent region (shift_of r) n w q) (is new) at);
-      of = subst (IsKeeperOf region) same stood.of;
-      waits = subst (λ (o : Option Keeper). KeeperWaits r.profile keeper [] (kept_by_worker o) (r.more k) q) same waits;
+      stands = rw (is new, number) at (did.stands.lent.each n new lt');
+      of = rw told.keeper stood.of;
+      waits = rw told.keeper waits;
       told = told.out;
-      kept_told = subst (λ (o : Option Keeper). KeptPushed keeper said kept (kept_by_worker o)) same (kept_none keeper said kept apart.silent);
+      kept_told = rw told.keeper (kept_none keeper said kept apart.silent);
       still = still_same keeper kept r.start q apart.part_is;
-      paid = inr (apart.silent, ap (λ o. owed_kept r.profile keeper o q) (sym same) ∙ owed_still r.profile keeper old.keeper r.start q apart.part_is);
-      noted = idle_noted k r.ops old new off told.requests;
+      paid = inr (apart.silent, ap (λ o. owed_kept r.profile keeper o q) told.keeper ∙ owed_still r.profile keeper old.keeper r.start q apart.part_is);
+      noted = cc (acts_none, told.requests, append-nil (names_of (requests_in old.requests)));
       room_noted = ap room_for told.requests;
       hands_over = λ empty names among. hands_nothing new names (ap requests_in told.requests ∙ empty) acts_none;
     }
 
 -- ---- the scavenger
-scavenger_done : {region : SharedRegion} (r : Round) {acts : List Act} (old new : Scavenger)
-    (did : Did region old.pass new.pass (λ σ σ'. CrewDid region (shift_of r) acts [] (crew_of σ old) (crew_of σ' new) r.start))
-    → ScavengerDone region r old new did.does.came.said did.does.came.reached
-scavenger_done r old new did = (
-  did.after,
-  did.does.stands.stands,
-  did.does.told,
-  λ k far. did.does.others k (λ same. omega (arith, same, far)) (λ i lt same. (let most = idle_within r.threads r.ops i lt in omega (arith, most, same, far))),
-)
+-- Its operations were done, and it has its pass again. Where none is its own, it did nothing.
+pub record CrewDone (region : SharedRegion) (r : Round) (old new : Scavenger) : Type 0 where
+  did : Did region old.pass new.pass (λ σ σ'. CrewDid region (shift_of r) (scavenger_acts (idle_in r) r.ops) [] (crew_of σ old) (crew_of σ' new) r.start)
+  left : is_active r.ops 0 ≡ true → HasLeft region new.bench (crew_in (idle_in r)) r.start.list did.does.came.reached.list
+  still : is_active r.ops 0 ≡ false → did.does.came.reached.list ≡ r.start.list
 
 none_scavenged : (idle : List ℕ) (ops : List Op) → is_active ops 0 ≡ false → scavenger_acts idle ops ≡ []
 none_scavenged idle [] off = refl
-none_scavenged idle (op ∷ ops) off =
-    let both = or_parts (op.actor == 0) (is_active ops 0) off in
-    ap (λ (t : Bool). if t then acts_of_op idle op ++ scavenger_acts idle ops else scavenger_acts idle ops) both.0 ∙ none_scavenged idle ops both.1
+none_scavenged idle (op ∷ ops) off = search (arith, op.actor == 0, none_scavenged idle ops)
+
+-- The scavenger's operations are done if it did them, and if there are none.
+pub crew_done : {region r team : _} (ready : IsReady region r team) (old new : Scavenger)
+    → ScavengerStands region (shift_of r) (scavenger_acts (idle_in r) r.ops) old r.start
+    → (is_active r.ops 0 ≡ true → DidScavenge region r.ops old new) → (is_active r.ops 0 ≡ false → new ≡ old) → CrewDone region r old new
+crew_done {region} {r} ready old new stands did stayed = elim (cases_Bool (is_active r.ops 0)) [
+  | inl on ↦
+      let both = (did on).did (shift_of r) ready.asked r.start ready.sound stands in
+      record { did = both.did; left = λ awake. both.left; still = λ off. absurd (true≢false (sym on ∙ off)) }
+  | inr off ↦
+      let none = none_scavenged (idle_in r) r.ops off in
+      let at = subst (λ acts. CrewAt region (shift_of r) acts (crew_of (standing_of_pass stands.has.pass) old) r.start) none stands.at in
+      subst (CrewDone region r old) (sym (stayed off)) record {
+        did = record { before = stands.has; after = stands.has; does = did_none none at };
+        left = λ on. absurd (true≢false (sym on ∙ off));
+        still = λ away. refl;
+      }
+]
 
 -- ---- all hands together
--- a thread in the hands of a thread is that thread, and has an operation
-own_hands : (threads : ℕ) (ops : List Op) (k : ℕ) → k ≤ threads → owner_in threads ops k ≡ (if is_active ops k then k else 0)
-own_hands threads ops k most = ap (λ t. if is_active ops (if t then k else k - threads) then (if t then k else k - threads) else 0) (le-leb k threads most)
-
 -- A thread in the scavenger's hands has no operation, and one in a worker's hands is that worker's own, with one.
 pub owned_by : (threads : ℕ) (ops : List Op) (k : ℕ) (t : Bool) → is_active ops k ≡ t → 1 ≤ k → k ≤ threads
     → (owner_in threads ops k ≡ 0 → is_active ops k ≡ false) × ((w : ℕ) → owner_in threads ops k ≡ w → 1 ≤ w → (k ≡ w) × (is_active ops k ≡ true))
-owned_by threads ops k a is b most = search (arith, own_hands)
+owned_by threads ops k a is b most = search (arith, owner_of threads ops k k (own_thread threads k most))
 
 none_in_hand : (owner : ℕ → ℕ) (w : ℕ) (acts : List Act) → ((k : ℕ) → owner k ≢ w) → acts_by owner w acts ≡ []
 none_in_hand owner w [] none = refl
-none_in_hand owner w (act ∷ acts) none =
-    ap (λ t. if t then act ∷ acts_by owner w acts else acts_by owner w acts) (ne_eqb (owner (actor_of_act act)) w (none (actor_of_act act)))
-    ∙ none_in_hand owner w acts none
+none_in_hand owner w (act ∷ acts) none = search (arith, ne_eqb, none_in_hand owner w acts none)
 
--- by these acts, which are those told otherwise
-abbrev came_as : {f : Profile} {acts acts' : List Act} {p : Progress} → acts' ≡ acts → Came f acts p → Came f acts' p
-came_as {f} {p = p} is own = record { reached = own.reached; reaches = subst (λ acts. Reaches f acts p own.reached) (sym is) own.reaches; said = own.said; records_are = own.records_are }
-
-module _ {region r team : _} (ready : IsReady region r team) (awake : Mask4) (same : (k : ℕ) → is_set awake k ≡ is_active r.ops k) where
-  abbrev pub inside : List Worker
-  inside = picked (is_in awake) 1 team.threads.items
-
-  abbrev pub outside : List Worker
-  outside = picked (is_out awake) 1 team.threads.items
-
-  its_bit : (i : ℕ) → is_set awake (1 + i) ≡ is_active r.ops (suc i)
-  its_bit i = ap (is_set awake) (let one : 1 + i ≡ suc i = omega arith in one) ∙ same (suc i)
-
-  idle_are : idle_in r ≡ picked (is_out awake) 1 (numbers_from 1 r.threads)
-  idle_are = threads_alike (λ k. not (is_active r.ops k)) (is_out awake) r.threads (λ k. ap not (sym (same k))) ∙ filter_picked (is_out awake) 1 r.threads
-
+module _ {region r team : _} (ready : IsReady region r team) where
   -- a worker is of one of the threads
   within_threads : (i : ℕ) → i < length team.threads.items → suc i ≤ r.threads
   within_threads i lt = omega (arith, ready.many, lt)
@@ -439,214 +379,161 @@ module _ {region r team : _} (ready : IsReady region r team) (awake : Mask4) (sa
       × (acts_by (owner_in r.threads r.ops) 0 (acts_of_ops (idle_in r) r.ops) ≡ scavenger_acts (idle_in r) r.ops)
   shared = acts_are_shared r.profile r.threads ready.asked r.ops ready.sound ready.behind ready.within
 
-  -- ---- before
-  pub own_may : All (MayDoPhase region r.book r.ops) inside
-  own_may j d lt = picked_pairs (λ (v w : Worker). MayDoPhase region r.book r.ops w) (is_in awake) d 1 team.threads.items team.threads.items refl
-      (λ i e less on. record { profile = r.profile; threads = r.threads; thread = suc i; later = r.later (suc i); more = r.more (suc i); progress = r.start; some = some_thread i less; stands = ready.workers i e less }) j d lt
+  module _ {hands lent : List Worker} (dealt : AreDealt (is_active r.ops) team.threads.items hands lent) where
+    -- ---- before
+    abbrev threads : List Worker
+    threads = team.threads.items
 
-  lent_many : length outside ≡ length (idle_in r)
-  lent_many = search (arith, picked_many, numbers_count, idle_are)
+    -- The hands may do their operations.
+    pub own_may : All (MayDoPhase region r.book r.ops) hands
+    own_may n d lt =
+        let at = dealt_from (is_in (is_active r.ops)) threads dealt.0 n lt in
+        let its = (dealt_at (is_in (is_active r.ops)) threads dealt.0 at.0 at.1 at.2).1 d d in
+        let k = suc at.0 in
+        subst (MayDoPhase region r.book r.ops) (sym (subst (λ m. get_or hands m d ≡ get_or threads at.0 d) at.3 its)) record {
+          profile = r.profile;
+          threads = r.threads;
+          thread = k;
+          later = r.later k;
+          more = r.more k;
+          progress = r.start;
+          some = some_thread at.0 at.1;
+          stands = ready.workers at.0 d at.1;
+        }
 
-  -- a worker that was lent is that of an idle thread
-  lent_stands : (j : ℕ) (d : Worker) → j < length outside → IsLent region (shift_of r) j (get_or outside j d) r.start
-  lent_stands j d lt =
-      subst (λ (ks : List ℕ). WorkerHas region r.profile (get_or ks j 0) (get_or outside j d) (r.later (get_or ks j 0)) r.start) (sym idle_are)
-      (picked_pairs (λ (k : ℕ) (w : Worker). WorkerHas region r.profile k w (r.later k) r.start) (is_out awake) 0 1 (numbers_from 1 r.threads) team.threads.items (numbers_count 1 r.threads ∙ sym ready.many)
-      (λ i e less off.
-      let number : suc i ≡ get_or (numbers_from 1 r.threads) i 0 = (let one : suc i ≡ 1 + i = omega arith in one)
-      ∙ sym (number_at 1 r.threads i (omega (arith, less, ready.many))) in
-      let none = none_own (suc i) r.ops (sym (its_bit i) ∙ not-true (is_set awake (1 + i)) off) in
-      subst (λ (k : ℕ). WorkerHas region r.profile k (get_or team.threads.items i e) (r.later k) r.start) number
-      (has_left (subst (λ acts. WorkerAt region r.book r.profile (suc i) acts (get_or team.threads.items i e) (r.later (suc i)) r.start) none (ready.workers i e less).thread))) j d lt)
+    lent_many : length lent ≡ length (idle_in r)
+    lent_many = search (arith, picked_many, numbers_count, idle_are, ready.many)
 
-  -- The scavenger with the idle threads lent to it stands before its operations of the phase.
-  pub may_scavenge : (scavenger : Scavenger) → scavenger.pass ≡ team.scavenger.pass → scavenger.outcomes ≡ team.scavenger.outcomes
-      → scavenger.out ≡ team.scavenger.out → scavenger.lent.items ≡ outside
-      → ScavengerStands region (shift_of r) (scavenger_acts (idle_in r) r.ops) scavenger r.start
-  may_scavenge scavenger pass outcomes out lent_is =
-      let has = ready.scavenger.has in
-      record {
-        has = record { pass = has.pass; present = pass ∙ has.present; of = has.of };
-        at = record {
-          stands = rw (outcomes, out) ready.scavenger.at;
-          lent = subst (λ (ws : List Worker). AreLent region (shift_of r) ws r.start) (sym lent_is) record { many = lent_many; each = lent_stands };
-        };
-      }
+    -- a worker that was lent is that of an idle thread
+    lent_stands : (n : ℕ) (d : Worker) → n < length lent → IsLent region (shift_of r) n (get_or lent n d) r.start
+    lent_stands n d lt =
+        let at = idle_from r.threads r.ops n (omega (arith, lt, lent_many)) in
+        let less : at.0 < length threads = omega (arith, at.1, ready.many) in
+        let its = (dealt_at (is_out (is_active r.ops)) threads dealt.1 at.0 less at.2).1 d d in
+        let none = none_own (suc at.0) r.ops (not-true (is_active r.ops (suc at.0)) at.2) in
+        let rests = rw none at (ready.workers at.0 d less).thread in
+        rw (subst (λ m. get_or lent m d ≡ get_or threads at.0 d) at.3 its, at.4) (has_left rests)
 
-  -- ---- the scavenger's operations, where it has one
-  module _ (scav0 scav1 : Scavenger) (stands : ScavengerStands region (shift_of r) (scavenger_acts (idle_in r) r.ops) scav0 r.start)
-      (lent_is : scav0.lent.items ≡ outside)
-      (did : is_active r.ops 0 ≡ true → DidScavenge region r.ops scav0 scav1) (stayed : is_active r.ops 0 ≡ false → scav1 ≡ scav0) where
-    -- as many are lent after them
-    pub lent_same : length scav1.lent.items ≡ length outside
-    lent_same = elim (cases_Bool (is_active r.ops 0)) [
-      | inl on ↦
-          ((did on).did (shift_of r) ready.asked r.start ready.sound stands).did.does.stands.lent.many ∙ sym lent_many
-      | inr off ↦ ap (λ (s : Scavenger). length s.lent.items) (stayed off) ∙ ap length lent_is
-    ]
+    -- The scavenger with the idle threads lent to it stands before its operations of the phase.
+    pub may_scavenge : (scavenger : Scavenger) → scavenger.pass ≡ team.scavenger.pass → scavenger.outcomes ≡ team.scavenger.outcomes
+        → scavenger.out ≡ team.scavenger.out → scavenger.lent.items ≡ lent
+        → ScavengerStands region (shift_of r) (scavenger_acts (idle_in r) r.ops) scavenger r.start
+    may_scavenge scavenger pass outcomes out lent_is =
+        let has = ready.scavenger.has in
+        record {
+          has = record { pass = has.pass; present = pass ∙ has.present; of = has.of };
+          at = record {
+            stands = rw (outcomes, out) ready.scavenger.at;
+            lent = subst (λ (ws : List Worker). AreLent region (shift_of r) ws r.start) (sym lent_is) record { many = lent_many; each = lent_stands };
+          };
+        }
 
-    -- .. in a vector with as many places
-    pub lent_places : vec_capacity scav1.lent ≡ vec_capacity scav0.lent
-    lent_places = search (arith, cases_Bool)
+  -- ---- after
+  module _ (hands hands' new : List Worker) (scav0 scav1 : Scavenger) (dealt : AreDealt (is_active r.ops) team.threads.items hands scav0.lent.items)
+      (each : DidPhases region r.book r.ops hands hands') (back : AreDealt (is_active r.ops) new hands' scav1.lent.items)
+      (size : length new ≡ length team.threads.items) (crew : CrewDone region r scav0 scav1) where
+    abbrev PieceOf : ℕ → Type 0
+    PieceOf w = PieceLeft region r team.threads.items new scav0 scav1 w
 
-    -- ---- after
-    module _ (own1 new : List Worker) (each : (i : ℕ) (d : Worker) → i < length inside → DidPhase region r.book r.ops (get_or inside i d) (get_or own1 i d))
-        (own_is : own1 ≡ picked (is_in awake) 1 new) (back : scav1.lent.items ≡ picked (is_out awake) 1 new)
-        (size : length new ≡ length team.threads.items) where
-      abbrev PieceOf : ℕ → Type 0
-      PieceOf w = PieceLeft region r team.threads.items new scav0 scav1 w
+    -- a thread with an operation did it
+    thread_did : (i : ℕ) (d : Worker) → i < length team.threads.items → is_active r.ops (suc i) ≡ true
+        → DidPhase region r.book r.ops (get_or team.threads.items i d) (get_or new i d)
+    thread_did i d lt on =
+        let was = dealt_at (is_in (is_active r.ops)) team.threads.items dealt.0 i lt on in
+        let is = dealt_at (is_in (is_active r.ops)) new back.0 i (omega (arith, lt, size)) on in
+        rw (sym (was.1 d d), sym (is.1 d d)) (each (count_of (is_in (is_active r.ops)) i) d was.0)
 
-      -- nobody's
-      nobody_piece : (i : ℕ) → is_active r.ops (suc i) ≡ false → acts_by (owner_in r.threads r.ops) (suc i) (acts_of_ops (idle_in r) r.ops) ≡ []
-          → PieceOf (suc i)
-      nobody_piece i off none = record {
-        piece = record {
-          own = came_as none (came_none r.profile r.start);
-          threads = λ j d lt whose.
-              let mine = (owned_by r.threads r.ops (suc j) (is_active r.ops (suc j)) refl (omega arith) (within_threads j lt)).1 (suc i) whose
-              (omega arith) in
-              absurd (true≢false (sym mine.1 ∙ ap (is_active r.ops) mine.0 ∙ off));
-          scavenger = λ bad. absurd (omega (arith, bad));
-          still = λ away. refl;
-        };
-        left = λ j d is lt on. absurd (true≢false (sym on ∙ off));
-        crew_left = λ bad. absurd (omega (arith, bad));
-      }
+    -- nobody's
+    nobody_piece : (i : ℕ) → is_active r.ops (suc i) ≡ false → acts_by (owner_in r.threads r.ops) (suc i) (acts_of_ops (idle_in r) r.ops) ≡ []
+        → PieceOf (suc i)
+    nobody_piece i off none = record {
+      piece = record {
+        own = came_as none (came_none r.profile r.start);
+        threads = λ j d lt whose.
+            let mine = (owned_by r.threads r.ops (suc j) (is_active r.ops (suc j)) refl (omega arith) (within_threads j lt)).1 (suc i) whose
+            (omega arith) in
+            absurd (true≢false (sym mine.1 ∙ ap (is_active r.ops) mine.0 ∙ off));
+        scavenger = λ bad. absurd (omega (arith, bad));
+        still = λ away. refl;
+      };
+      left = λ j d is lt on. absurd (true≢false (sym on ∙ off));
+      crew_left = λ bad. absurd (omega (arith, bad));
+    }
 
-      -- (nobody past the threads has anything in hand)
-      nobody_acts : (i : ℕ) → is_active r.ops (suc i) ≡ false → acts_by (owner_in r.threads r.ops) (suc i) (acts_of_ops (idle_in r) r.ops) ≡ []
-      nobody_acts i off = search (arith, cases_lt, none_in_hand, cases_Bool)
+    -- (nobody past the threads has anything in hand)
+    nobody_acts : (i : ℕ) → is_active r.ops (suc i) ≡ false → acts_by (owner_in r.threads r.ops) (suc i) (acts_of_ops (idle_in r) r.ops) ≡ []
+    nobody_acts i off = search (arith, cases_lt, none_in_hand, cases_Bool)
 
-      -- a thread's
-      thread_piece : (i : ℕ) → i < length team.threads.items → is_active r.ops (suc i) ≡ true → PieceOf (suc i)
-      thread_piece i lt on =
-          let n = count_of (is_in awake) 1 i in
-          let d = some_item team.threads.items i lt in
-          let before = picked_at (is_in awake) 1 team.threads.items i d lt (its_bit i ∙ on) in
-          let after = picked_at (is_in awake) 1 new i d (omega (arith, lt, size)) (its_bit i ∙ on) in
-          let phase = subst (DidPhase region r.book r.ops (get_or team.threads.items i d)) (ap (λ (ws : List Worker). get_or ws n d) own_is ∙ after.1)
-          (subst (λ (w : Worker). DidPhase region r.book r.ops w (get_or own1 n d)) before.1 (each n d before.0))
-          in
-          let done = active_done {r = r} (suc i) (get_or team.threads.items i d) (get_or new i d) (ready.workers i d lt) (some_thread i lt) phase in
-          record {
-            piece = record {
-              own = came_as (shared.1 (suc i) (omega arith) (within_threads i lt) on) done.0;
-              threads = λ j e lt' whose.
-                  let mine = (owned_by r.threads r.ops (suc j) (is_active r.ops (suc j)) refl (omega arith) (within_threads j lt')).1 (suc i) whose
-                  (omega arith) in
-                  let at : i ≡ j = (omega (arith, mine.0)) in
-                  subst (λ (k : ℕ). ThreadDone region r (suc k) (get_or team.threads.items k e) (get_or new k e) done.0.said done.0.reached) at
-                  (subst (λ w. ThreadDone region r (suc i) w (get_or new i e) done.0.said done.0.reached) (get_or_default team.threads.items i d e lt)
-                  (subst (λ w. ThreadDone region r (suc i) (get_or team.threads.items i d) w done.0.said done.0.reached) (get_or_default new i d e (omega (arith, size, lt))) done.1));
-              scavenger = λ bad. absurd (omega (arith, bad));
-              still = λ away. absurd (true≢false (sym on ∙ away));
-            };
-            left = λ j e is lt' awake_too.
-                let at : i ≡ j = (omega (arith, is)) in
-                subst (λ k. HasLeft region (get_or new k e).bench (pair_in r.threads (suc i) (get_or team.threads.items k e).keeper) r.start.list done.0.reached.list) at
-                (subst (λ (w : Worker). HasLeft region (get_or new i e).bench (pair_in r.threads (suc i) w.keeper) r.start.list done.0.reached.list) (get_or_default team.threads.items i d e lt)
-                (subst (λ (w : Worker). HasLeft region w.bench (pair_in r.threads (suc i) (get_or team.threads.items i d).keeper) r.start.list done.0.reached.list) (get_or_default new i d e (omega (arith, size, lt))) done.2));
-            crew_left = λ bad. absurd (omega (arith, bad));
-          }
+    -- a thread's
+    thread_piece : (i : ℕ) → i < length team.threads.items → is_active r.ops (suc i) ≡ true → PieceOf (suc i)
+    thread_piece i lt on =
+        let d = some_item team.threads.items i lt in
+        let did = thread_did i d lt on in
+        let done = active_done {r = r} (suc i) (get_or team.threads.items i d) (get_or new i d) (ready.workers i d lt) (some_thread i lt) did in
+        record {
+          piece = record {
+            own = came_as (shared.1 (suc i) (omega arith) (within_threads i lt) on) done.0;
+            threads = λ j e lt' whose.
+                let mine = (owned_by r.threads r.ops (suc j) (is_active r.ops (suc j)) refl (omega arith) (within_threads j lt')).1 (suc i) whose
+                (omega arith) in
+                let at : j ≡ i = omega (arith, mine.0) in
+                rw (at, get_or_default team.threads.items i e d lt, get_or_default new i e d (omega (arith, size, lt))) done.1;
+            scavenger = λ bad. absurd (omega (arith, bad));
+            still = λ away. absurd (true≢false (sym on ∙ away));
+          };
+          left = λ j e is lt' awake_too.
+              let at : j ≡ i = omega (arith, is) in
+              rw (at, get_or_default team.threads.items i e d lt, get_or_default new i e d (omega (arith, size, lt))) done.2;
+          crew_left = λ bad. absurd (omega (arith, bad));
+        }
 
-      -- where a thread without an operation is lent: its rank among those that are
-      abbrev rank : ℕ → ℕ
-      rank j = count_of (is_out awake) 1 j
+    -- the scavenger's
+    scavenger_piece : PieceOf 0
+    scavenger_piece = record {
+      piece = record {
+        own = came_as shared.3 crew.did.does.came;
+        threads = λ j d lt whose.
+            let off = (owned_by r.threads r.ops (suc j) (is_active r.ops (suc j)) refl (omega arith) (within_threads j lt)).0 whose in
+            let was = dealt_at (is_out (is_active r.ops)) team.threads.items dealt.1 j lt (ap not off) in
+            let is = dealt_at (is_out (is_active r.ops)) new back.1 j (omega (arith, size, lt)) (ap not off) in
+            let number = (idle_at r.threads r.ops j (within_threads j lt) (ap not off)).1 in
+            lent_done (suc j) (count_of (is_out (is_active r.ops)) j) (get_or team.threads.items j d) (get_or new j d) (omega arith) off
+            (ready.workers j d lt) crew.did.does was.0 is.0 number (λ e. was.1 e d) (λ e. is.1 e d);
+        scavenger = λ is. (
+          crew.did.after,
+          crew.did.does.stands.stands,
+          crew.did.does.told,
+          λ k far. crew.did.does.others k (λ same. omega (arith, same, far))
+              (λ n lt same. (let at = idle_from r.threads r.ops n lt in omega (arith, at.1, at.4, same, far))),
+        );
+        still = crew.still;
+      };
+      left = λ j d bad. absurd (omega (arith, bad));
+      crew_left = λ is on. crew.left on;
+    }
 
-      lent_at : (all lent : List Worker) → lent ≡ picked (is_out awake) 1 all → (j : ℕ) (d : Worker) → j < length all → is_active r.ops (suc j) ≡ false
-          → (rank j < length lent) × ((e : Worker) → get_or lent (rank j) e ≡ get_or all j d)
-      lent_at all lent is j d lt off =
-          let out = not_from_false (is_set awake (1 + j)) (its_bit j ∙ off) in (
-            subst (λ (ws : List Worker). rank j < length ws) (sym is) (picked_at (is_out awake) 1 all j d lt out).0,
-            λ e. ap (λ (ws : List Worker). get_or ws (rank j) e) is ∙ (picked_at (is_out awake) 1 all j e lt out).1 ∙ get_or_default all j e d lt,
-          )
-
-      -- the scavenger's
-      scavenger_piece : is_active r.ops 0 ≡ true → PieceOf 0
-      scavenger_piece on =
-          let crew = (did on).did (shift_of r) ready.asked r.start ready.sound stands in
-          record {
-            piece = record {
-              own = came_as shared.3 crew.did.does.came;
-              threads = λ j d lt whose.
-                  let off = (owned_by r.threads r.ops (suc j) (is_active r.ops (suc j)) refl (omega arith) (within_threads j lt)).0 whose in
-                  let was = lent_at team.threads.items scav0.lent.items lent_is j d lt off in
-                  let is = lent_at new scav1.lent.items back j d (omega (arith, size, lt)) off in
-                  lent_done (suc j) (rank j) (get_or team.threads.items j d) (get_or new j d) (omega arith) off
-                  (ready.workers j d lt) crew.did.does was.0 is.0
-                  (search (arith, numbers_count, idle_are, picked_at, not_from_false, its_bit, number_at)) was.1 is.1;
-              scavenger = λ is. scavenger_done r scav0 scav1 crew.did;
-              still = λ away. absurd (true≢false (sym on ∙ away));
-            };
-            left = λ j d bad. absurd (omega (arith, bad));
-            crew_left = λ is awake_too. crew.left;
-          }
-
-      -- .. where none of the operations is its own
-      idle_piece : is_active r.ops 0 ≡ false → PieceOf 0
-      idle_piece off =
-          let none = none_scavenged (idle_in r) r.ops off in
-          record {
-            piece = record {
-              own = came_as (shared.3 ∙ none) (came_none r.profile r.start);
-              threads = λ j d lt whose.
-                  let away = (owned_by r.threads r.ops (suc j) (is_active r.ops (suc j)) refl (omega arith) (within_threads j lt)).0 whose in
-                  let was = lent_at team.threads.items scav0.lent.items lent_is j d lt away in
-                  let is = lent_at new scav1.lent.items back j d (omega (arith, size, lt)) away in
-                  idle_stayed (suc j) (get_or team.threads.items j d) (get_or new j d) away (ready.workers j d lt) (sym (is.1 d) ∙ ap (λ (s : Scavenger). get_or s.lent.items (rank j) d) (stayed off) ∙ was.1 d);
-              scavenger = λ is. subst (λ (s : Scavenger). ScavengerDone region r scav0 s [] r.start) (sym (stayed off)) (
-                stands.has,
-                rw none at stands.at.stands,
-                pushed_none refl,
-                λ k far. record { part_is = refl; silent = refl },
-              );
-              still = λ away. refl;
-            };
-            left = λ j d bad. absurd (omega (arith, bad));
-            crew_left = λ is on. absurd (true≢false (sym on ∙ off));
-          }
-
-      -- Each worker's piece is done: what it did for all actors in its hands.
-      pub piece : (w : ℕ) → PieceOf w
-      piece zero = elim (cases_Bool (is_active r.ops 0)) [
-        | inl on ↦ scavenger_piece on
-        | inr off ↦ idle_piece off
-      ]
-      piece (suc i) = search (arith, cases_Bool, thread_piece, nobody_piece, nobody_acts)
+    -- Each worker's piece is done: what it did for all actors in its hands.
+    pub piece : (w : ℕ) → PieceOf w
+    piece zero = scavenger_piece
+    piece (suc i) = search (arith, cases_Bool, thread_piece, nobody_piece, nobody_acts)
 
 -- Which actors a worker has in hand in a phase.
 
--- ---- those chosen of numbers in a row
-filter_taken : (chosen : ℕ → Bool) (a : ℕ) (ns : List ℕ) → chosen a ≡ true → filter chosen (a ∷ ns) ≡ a ∷ filter chosen ns
-filter_taken chosen a ns on = ap (λ (b : Bool). if b then a ∷ filter chosen ns else filter chosen ns) on
+-- ---- a thread that is idle
+-- One among the idle threads of a phase is a thread without an operation.
+pub among_idle : (threads : ℕ) (ops : List Op) (k : ℕ) → among (idle_threads threads ops) k ≡ true → (is_active ops k ≡ false) × (1 ≤ k) × (k ≤ threads)
+among_idle threads ops k its =
+    let place = among_place (idle_threads threads ops) k its in
+    let at = idle_from threads ops place.0 place.1 in
+    let is : suc at.0 ≡ k = sym at.4 ∙ place.2 in
+    (subst (λ j. is_active ops j ≡ false) is (not-true (is_active ops (suc at.0)) at.2), omega (arith, is), omega (arith, is, at.1))
 
-filter_passed : (chosen : ℕ → Bool) (a : ℕ) (ns : List ℕ) → chosen a ≡ false → filter chosen (a ∷ ns) ≡ filter chosen ns
-filter_passed chosen a ns off = ap (λ (b : Bool). if b then a ∷ filter chosen ns else filter chosen ns) off
-
-pub chosen_among : (chosen : ℕ → Bool) (k a n : ℕ) → chosen k ≡ true → a ≤ k → k < a + n → among (filter chosen (numbers_from a n)) k ≡ true
-chosen_among chosen k a zero on low high = absurd (omega (arith, low, high))
-chosen_among chosen k a (suc n) on low high = elim (cases_eq a k) [
-  | inl is ↦
-      ap (λ ns. among ns k) (filter_taken chosen a (numbers_from (a + 1) n) (ap chosen is ∙ on)) ∙ among_here a k (filter chosen (numbers_from (a + 1) n)) is
-  | inr other ↦
-      let later = chosen_among chosen k (a + 1) n on (omega (arith, low, other)) (omega (arith, high)) in
-      elim (cases_Bool (chosen a)) [
-        | inl its ↦ ap (λ ns. among ns k) (filter_taken chosen a (numbers_from (a + 1) n) its) ∙ among_later a k (filter chosen (numbers_from (a + 1) n)) later
-        | inr off ↦ ap (λ (ns : List ℕ). among ns k) (filter_passed chosen a (numbers_from (a + 1) n) off) ∙ later
-      ]
-]
-
-pub among_chosen : (chosen : ℕ → Bool) (k a n : ℕ) → among (filter chosen (numbers_from a n)) k ≡ true → (chosen k ≡ true) × (a ≤ k) × (k < a + n)
-among_chosen chosen k a zero its = absurd (true≢false (sym its))
-among_chosen chosen k a (suc n) its = elim (cases_Bool (chosen a)) [
-  | inl on ↦ elim (among_cases a k (filter chosen (numbers_from (a + 1) n)) (sym (ap (λ ns. among ns k) (filter_taken chosen a (numbers_from (a + 1) n) on)) ∙ its)) [
-    | inl is ↦ (subst (λ (m : ℕ). chosen m ≡ true) is on, omega (arith, is), omega (arith, is))
-    | inr later ↦ let rest = among_chosen chosen k (a + 1) n later in (rest.0, omega (arith, rest.1), omega (arith, rest.2))
-  ]
-  | inr off ↦
-      let rest = among_chosen chosen k (a + 1) n (sym (ap (λ (ns : List ℕ). among ns k) (filter_passed chosen a (numbers_from (a + 1) n) off)) ∙ its) in
-      (rest.0, omega (arith, rest.1), omega (arith, rest.2))
-]
+-- A thread without an operation is one of them.
+pub idle_among : (threads : ℕ) (ops : List Op) (k : ℕ) → is_active ops k ≡ false → 1 ≤ k → k ≤ threads → among (idle_threads threads ops) k ≡ true
+idle_among threads ops k off some most =
+    let is : suc (k - 1) ≡ k = omega (arith, some) in
+    let at = idle_at threads ops (k - 1) (omega (arith, some, most)) (ap not (ap (is_active ops) is ∙ off)) in
+    subst (λ j. among (idle_threads threads ops) j ≡ true) (at.1 ∙ is) (among_at (idle_threads threads ops) _ at.0)
 
 -- ---- a thread with an operation, and its keeper
 past_threads : (threads k : ℕ) → threads < k → thread_in threads k ≡ k - threads

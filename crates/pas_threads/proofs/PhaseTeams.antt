@@ -1,56 +1,39 @@
 -- A phase of the team: what each worker's share of it is, what all workers did and said is put together, gathered and taken over, and then the team stands
 -- before the phases that are left.
-use Rattle.std.proofs.Common.{◌≡◌, ℕ, zero, ◌+◌, ◌-◌, ◌<◌, ◌≤◌, true, inl, inr, List, [], ◌++◌, length, None, refl, ap, sym, ◌∙◌, subst, arith, append-nil, suc}
-use Rattle.std.proofs.Common.{Bool, false, ◌∷◌, get_or, Option, All, map, length-append, MatchOption, eqb-true, eq-eqb, ◌⊎◌, true≢false, ◌≢◌}
+use Rattle.std.proofs.Common.{◌≡◌, ℕ, zero, ◌+◌, ◌-◌, ◌<◌, ◌≤◌, true, inl, inr, List, [], ◌++◌, length, refl, ap, sym, ◌∙◌, subst, arith, append-nil, suc, Bool}
+use Rattle.std.proofs.Common.{false, ◌∷◌, get_or, Option, All, map, length-append, MatchOption, eqb-true, eq-eqb, ◌⊎◌, true≢false}
 use Rattle.std.proofs.lemmas.{List.append_cancel_left, Bool.{false_from_ne_true, cases_Bool, cases_lt}}
 use Rattle.pas_profile.specs.declared.profile.Profile.{Profile}
 use Rattle.pas_steps.specs.Lists.{part, Whole}
 use Rattle.pas_shared.specs.{declared.{region.SharedRegion.SharedRegion, ledger.Ledger.Ledger}, Ruled.{steps_of, IsEarlier, AreEarlier}, Ledgers.looks_of}
-use Rattle.pas_trace.specs.{EveryPlan.{own_records, is_asked, records_of_ops, all_ops}, declared.plan.Op.Op, Acts.{Act, own_acts, scavenger_acts, idle_threads}}
-use Rattle.pas_trace.specs.{Acts.{acts_of_ops, is_active, Wakes, numbers_from, active_threads, phase_acts}, Asked.keeper_in, EveryPhase.FreeTheirOwn}
+use Rattle.pas_trace.specs.{EveryPlan.{own_records, records_of_ops, all_ops}, declared.plan.Op.Op, Acts.{Act, own_acts, scavenger_acts, idle_threads}}
+use Rattle.pas_trace.specs.{Acts.{acts_of_ops, is_active, Wakes, active_threads, phase_acts}, Asked.keeper_in, EveryPhase.FreeTheirOwn}
 use Rattle.pas_trace.proofs.EveryPlan.{own_both, records_both}
 use Rattle.pas_cache.specs.Caches.{Cached, cached}
-use Rattle.pas_answers.specs.{Answers.{Progress, Named}, Calls.{owed_events, OnlyAsked}, Fit.{costs_of, own_costs_of, AreFit}, Names.names_held}
-use Rattle.pas_answers.{specs.{Reaching.Reaches, Ways.{records_by, by_actors}, Stages.{in_hands, phase_stages}}, proofs.OwnRecords.records_both as said_both}
+use Rattle.pas_answers.specs.{Answers.Progress, Calls.{owed_events, OnlyAsked}, Fit.{costs_of, own_costs_of, AreFit}, Names.names_held, Reaching.Reaches}
+use Rattle.pas_answers.{specs.{Ways.{records_by, by_actors}, Stages.{in_hands, phase_stages}}, proofs.OwnRecords.records_both as said_both}
 use Rattle.pas_answers.proofs.{Reached.reach_both, EachAct.all_back}
-use Rattle.pas_acts.specs.{Pairs.{for_guards, KeeperWaits, KeptPushed}, Awake.awake_in, Shares.{acts_by, owner_in, AreKeptBehind, IsWoven, Owners, IsShareOf}}
-use Rattle.pas_acts.specs.{NameBooks.{NamesAt, requests_in, names_of, known_in, Requests, AreWithin}, declared.names.NameBook.NameBook}
-use Rattle.pas_acts.proofs.{ActsOfPlan.{idle_few, ops_fit}, AtDesk.{rests_still, sits_still, sits_for}, Naming.{sound_front, below_front}}
-use Rattle.pas_acts.proofs.{ActsLeft.threads_alike, PhaseActs.{acts_are_shared, own_thread, owner_of, kept_thread, zero_own}, Weaving.weave}
-use Rattle.pas_threads.specs.{Pairs.{no_more, KeeperRests, owed_kept, keeper_at, owed_by_keepers, AreGuarded, kept_by_worker}, Performing.{Round, idle_in}}
-use Rattle.pas_threads.specs.{Performing.{ThreadDone, ScavengerDone, HeardOrder, IsHeard, IsDone}, Sessions.{WorkerRests, ScavengerRests, WorkerHas, Session}}
-use Rattle.pas_threads.specs.Sessions.{planned, owed_by, HasPlaces, TeamAt, AreMarked, AreWritten, HasRoom, PhaseAt, PhaseDone, IsOfActors, StandSo, WentBy}
-use Rattle.pas_threads.specs.{Sessions.evenly, Taken.{HandsOver, HasTaken, IsWithin}, Left.{pair_in, crew_in}, Turns.{owed_at, Came, TookNoPart, said_by_all}}
-use Rattle.pas_threads.specs.{Turns.{said_by_keepers, Pushed}, declared.{scavenger.Scavenger.Scavenger, workers.Worker.Worker, keeper.Keeper.Keeper}}
-use Rattle.pas_threads.{specs.declared.phases.Team.Team, proofs.TakingTurns.{IsCleared, IsScavengerCleared, WereTaken, cleared, pass_still, same_owed}}
-use Rattle.pas_threads.proofs.{TakingTurns.WereGathered, Dealt.{number_at, some_item}, Benched.{among_here, among_later, among_cases}, Performed.names_then}
-use Rattle.pas_threads.proofs.Performed.{names_within, in_pair, pair_within, pair_has, pair_keeps, owned_by, chosen_among, among_chosen}
-use Rattle.pas_threads.proofs.ReadyPhases.{own_costs, scavenger_costs, own_all, all_paid, owed_less, kept_less, HasBegun, round_of, room_is, active_front}
-use Rattle.pas_threads.proofs.{ReadyPhases.active_back, Keepers.{owed_still, will_wait_then, waits_next, waits_still, owed_gathered, keeper_is, kept_nobody}}
-use Rattle.pas_threads.proofs.{Keepers.{kept_will, kept_hands, pushed_alike}, Staging.{stand_all, of_first, went_both, went_alone, went_sorted, sorted_still}}
-use Rattle.pas_threads.proofs.{Staging.sorted_seen, BetweenPhases.{AllTold, may_gather, room_left, written, rest_again}}
+use Rattle.pas_acts.specs.{Pairs.{for_guards, KeeperWaits, KeptPushed}, Awake.awake_in, Shares.{acts_by, owner_in, IsWoven, Owners, IsShareOf}}
+use Rattle.pas_acts.{specs.declared.names.NameBook.NameBook, proofs.{ActsOfPlan.{idle_few, ops_fit}, AtDesk.{rests_still, sits_still, sits_for}}}
+use Rattle.pas_acts.proofs.{Naming.{sound_front, below_front}, ActsLeft.threads_alike, PhaseActs.{acts_are_shared, own_thread, owner_of, kept_thread, zero_own}}
+use Rattle.pas_acts.proofs.Weaving.{weave}
+use Rattle.pas_threads.specs.{Pairs.{no_more, KeeperRests, owed_kept, keeper_at, AreGuarded, kept_by_worker}, Performing.{Round, idle_in, ThreadDone}}
+use Rattle.pas_threads.specs.{Performing.{ScavengerDone, HeardOrder, IsHeard, IsDone}, Sessions.{WorkerRests, ScavengerRests, WorkerHas, Session, planned}}
+use Rattle.pas_threads.specs.{Sessions.{owed_by, HasPlaces, TeamAt, AreMarked, HasRoom, PhaseDone, IsOfActors, StandSo, WentBy, evenly}, Taken.HandsOver}
+use Rattle.pas_threads.specs.{Taken.{HasTaken, IsWithin}, Left.{pair_in, crew_in}, Turns.{owed_at, Came, TookNoPart, said_by_all, said_by_keepers, Pushed}}
+use Rattle.pas_threads.specs.{Turns.WereGathered, declared.{scavenger.Scavenger.Scavenger, workers.Worker.Worker, keeper.Keeper.Keeper, phases.Team.Team}}
+use Rattle.pas_threads.proofs.{TakingTurns.{IsCleared, IsScavengerCleared, WereTaken, cleared, pass_still, same_owed}, Performed.{pair_has, names_then}}
+use Rattle.pas_threads.proofs.{Performed.{names_within, in_pair, pair_within, pair_keeps, owned_by, idle_among, among_idle}, Dealt.some_item}
+use Rattle.pas_threads.proofs.{Benched.{among_here, among_later, among_cases}, ReadyPhases.{own_costs, scavenger_costs, own_all, all_paid, owed_less, HasBegun}}
+use Rattle.pas_threads.proofs.{ReadyPhases.{round_of, room_is, active_front, active_back, owed_pair}, Keepers.{owed_still, will_wait_then, waits_next}}
+use Rattle.pas_threads.proofs.{Keepers.{waits_still, owed_gathered, keeper_is, kept_nobody, kept_will, kept_hands, pushed_alike, none_there}, Staging.stand_all}
+use Rattle.pas_threads.proofs.{Staging.{of_first, went_both, went_alone, went_sorted, sorted_still, sorted_seen}, BetweenPhases.{AllTold, may_gather}}
+use Rattle.pas_threads.proofs.BetweenPhases.{room_left, written, rest_again}
 use Rattle.pas_bits.specs.{Masks.is_set, declared.mask.Mask4.Mask4}
 use Rattle.pas_core.specs.Orders.{steps_by}
 use Rattle.pas_records.specs.{Rooms.{records_in, room_of, Records}, declared.record.Record.Record}
 
 -- ---- the whole phase
-whole_share : (owner : Owners) (w : ℕ) (p : Progress) → IsShareOf owner w p p
-whole_share owner w p = record { steps = refl; parts = λ k is. refl; caches = λ k is. refl; books = λ k is. refl; records = λ k is. refl; epoch = λ is. refl; names = λ n block is. is }
-
--- All acts were answered, if each worker answered its own
-phase_woven : {f : Profile} {book : NameBook} {p : Progress} (threads : ℕ) (ops left : List Op) (at : NamesAt f (ops ++ left) book p)
-    → AreKeptBehind threads ops → ((k : ℕ) → is_active ops k ≡ true → k ≤ threads) → (q : Progress) (own : ℕ → Progress) → q.names ≡ p.names
-    → ((w : ℕ) → Reaches f (acts_by (owner_in threads ops) w (acts_of_ops (idle_threads threads ops) ops)) q (own w))
-    → IsWoven f (owner_in threads ops) (acts_of_ops (idle_threads threads ops) ops) at.asked q own
-phase_woven {f} {book} {p} threads ops left at behind within q own same reaches =
-    let limit = names_held book.names in
-    let acts = acts_of_ops (idle_threads threads ops) ops in
-    let fit = ops_fit f limit (idle_threads threads ops) ops left [] at.below (λ asked sound above. tt) at.asked at.sound at.above in
-    let owner = owner_in threads ops in
-    weave f owner limit at.asked acts q (λ w. q) own (subst (AreFit f limit at.asked) (append-nil acts) fit)
-    (acts_are_shared f threads at.asked ops (sound_front f at.asked ops left at.sound) behind within).0
-    (subst (OnlyAsked at.asked) (sym same) at.only) (λ w. whole_share owner w q) reaches
-
 -- what an actor did is the same in both
 pub record HasSamePart (k : ℕ) (own p : Progress) : Type 0 where
   pub parts : part k own.list ≡ part k p.list
@@ -67,6 +50,11 @@ said_alike : {f : Profile} {acts : List Act} {k : ℕ} {q reached : Progress} (o
     → reached.records ≡ q.records ++ said → records_by k own.said ≡ records_by k said
 said_alike {k = k} {q} own said same records =
     search (arith, said_both, append_cancel_left)
+
+-- Nor did one take part in all that took none in what its worker did.
+took_none : {f : Profile} {acts : List Act} {k : ℕ} {q reached : Progress} (own : Came f acts q) (said : List Record) → HasSamePart k own.reached reached
+    → reached.records ≡ q.records ++ said → TookNoPart k own.said q own.reached → TookNoPart k said q reached
+took_none own said same records none = record { part_is = sym same.parts ∙ none.part_is; silent = sym (said_alike own said same records) ∙ none.silent }
 
 -- the profile with just the threads, by which a plan's operations are counted
 abbrev pub planned_in : Round → Profile
@@ -123,12 +111,6 @@ module _ {region r k old new left said reached : _} (x : WorkerShare region r k 
             omega (arith, its, owed, ap length idle.0, idle.1, has_paid)
       ]
 
-  -- Where the worker has no keeper, that actor took no part.
-  kept_away : old.keeper ≡ None → TookNoPart keeper said r.start reached
-  kept_away none =
-      let away = kept_nobody {r = r} x.done none in
-      record { part_is = sym x.same_kept.parts ∙ away.0; silent = sym (said_alike x.own said x.same_kept x.records_are) ∙ away.1 }
-
   -- What it said for both came to the records of each. Both rest with room for the operations that are left.
   own_out : Pushed k said old.out new.out
   own_out = record { added = x.done.told.added ∙ ap (λ (rs : List Record). records_in old.out ++ rs) (said_alike x.own said x.same x.records_are); room = x.done.told.room }
@@ -149,16 +131,6 @@ module _ {region r k old new left said reached : _} (x : WorkerShare region r k 
 
   kept_left : KeeperWaits r.profile keeper (own_acts k left) (kept_by_worker new.keeper) no_more reached
   kept_left = search (arith, will_wait_then, kept_will, waits_next, waits_still) fits 400
-
--- What a worker hands over is about its requests.
-handed : {f : Profile} {ops : List Op} {book : NameBook} {k : ℕ} {new gathered : Worker} {names : List Named} → gathered.requests ≡ new.requests
-    → HandsOver f ops book k new names → HandsOver f ops book k gathered names
-handed {f} {ops} {book} {k} {new} {gathered} {names} same over = record {
-  noted = ap (λ (rs : Requests). names_of (requests_in rs)) same ∙ over.noted;
-  says = λ n has.
-      let says = over.says n (ap (λ (rs : Requests). is_asked (names_of (requests_in rs)) n) (sym same) ∙ has) in
-      (says.0, says.1, ap (λ (rs : Requests). known_in book rs n) same ∙ says.2, says.3);
-}
 
 -- ---- the scavenger
 -- It rested before the phase, and did its operations of it, as its worker's share of the whole phase has them.
@@ -193,13 +165,6 @@ module _ {region r old new p left said reached : _} (x : ScavengerShare region r
         none = c.none;
       }
 
-  -- Nobody past the threads whom its worker has in hand made a step or said anything.
-  nobody_after : (k : ℕ) → r.threads < k → HasSamePart k x.own.reached reached → TookNoPart k said r.start reached
-  nobody_after k far same = record {
-    part_is = sym same.parts ∙ (x.done.3 k far).part_is;
-    silent = sym (said_alike x.own said same x.records_are) ∙ (x.done.3 k far).silent;
-  }
-
 -- The scavenger is in its own hands.
 scavenger_own : (threads : ℕ) (ops : List Op) → owner_in threads ops 0 ≡ 0
 scavenger_own threads ops = owner_of threads ops 0 0 (own_thread threads 0 (omega arith)) ∙ zero_own (is_active ops 0)
@@ -221,8 +186,24 @@ module _ {region s awake team team1 team2 p : _} (ops : List Op) (rest : List (L
 
   -- What the workers of a phase did, each for itself, is woven into the acts of the phase in the text's order.
   pub woven : IsWoven f (owner_in s.threads ops) (acts_of_ops (idle_threads s.threads ops) ops) at.names.asked start (λ w. (done.pieces w).own.reached)
-  woven = phase_woven s.threads ops left at.names begun.ready.behind begun.ready.within start (λ w. (done.pieces w).own.reached)
-      begun.woke.turns.leaves.names (λ w. (done.pieces w).own.reaches)
+  woven =
+      let names = at.names in
+      let limit = names_held team.book.names in
+      let acts = acts_of_ops (idle_threads s.threads ops) ops in
+      let fit = ops_fit f limit (idle_threads s.threads ops) ops left [] names.below (λ asked sound above. tt) names.asked names.sound names.above in
+      let hands = (acts_are_shared f s.threads names.asked ops (sound_front f names.asked ops left names.sound) begun.ready.behind begun.ready.within).0 in
+      weave f (owner_in s.threads ops) limit names.asked acts start (λ w. start) (λ w. (done.pieces w).own.reached)
+      (subst (AreFit f limit names.asked) (append-nil acts) fit) hands (subst (OnlyAsked names.asked) (sym begun.woke.turns.leaves.names) names.only)
+      (λ w. record {
+        steps = refl;
+        parts = λ k is. refl;
+        caches = λ k is. refl;
+        books = λ k is. refl;
+        records = λ k is. refl;
+        epoch = λ is. refl;
+        names = λ n block is. is;
+      })
+      (λ w. (done.pieces w).own.reaches)
 
   abbrev pub reached : Progress
   reached = woven.reached
@@ -269,22 +250,21 @@ module _ {region s awake team team1 team2 p : _} (ops : List Op) (rest : List (L
     spare = refl;
   }
 
-  -- .. and past the keepers, if there are as many as threads
-  its_hands : (k : ℕ) → s.threads + s.threads < k → owner_in s.threads ops k ≡ 0
-  its_hands k far =
-      search (arith, false_from_ne_true, kept_thread, owner_of)
-
   -- nobody past the threads and the keepers has an operation, nor a part in the phase
   nobody_kept : (i : ℕ) (d : Worker) → i < length team1.threads.items → s.threads + s.keepers < s.threads + suc i → AreGuarded s.keepers team1.threads.items
       → TookNoPart (s.threads + suc i) said start reached
-  nobody_kept i d lt far (inl all) = absurd (omega (arith, all.0, far, lt))
-  nobody_kept i d lt far (inr none) = kept_away (share i d lt) (none.1 i d lt)
+  nobody_kept i d lt far (true, many, all) = absurd (omega (arith, many, far, lt))
+  nobody_kept i d lt far (false, none, all) =
+      let x = share i d lt in
+      let away = kept_nobody {r = round_is} x.done (none_there (get_or team1.threads.items i d).keeper (all i d lt)) in
+      took_none x.own said x.same_kept x.records_are record { part_is = away.0; silent = away.1 }
 
   -- Nobody else is left at the bench once the actor and its keeper rose.
   nobody : (k : ℕ) → s.threads + s.keepers < k → TookNoPart k said start reached
-  unfolding crew_share
   nobody k far = elim (cases_lt (s.threads + s.threads) k) [
-    | inl past ↦ nobody_after crew_share k (omega (arith, far)) (same_part (woven.shares 0) k (its_hands k past))
+    | inl past ↦
+        let its : owner_in s.threads ops k ≡ 0 = search (arith, false_from_ne_true, kept_thread, owner_of) in
+        took_none (done.pieces 0).own said (same_part (woven.shares 0) k its) woven.records_are (((done.pieces 0).scavenger refl).3 k (omega (arith, far)))
     | inr within ↦
         let i = k - s.threads - 1 in
         let back : s.threads + suc i ≡ k = omega (arith, far) in
@@ -295,9 +275,7 @@ module _ {region s awake team team1 team2 p : _} (ops : List Op) (rest : List (L
 
   -- ---- what is gathered
   -- what a thread and its keeper owed before the phase
-  began_with : (i : ℕ) → i < s.threads
-      → (owed_at f (suc i) start ≤ owed_at f (suc i) p)
-      × (owed_kept f (s.threads + suc i) (keeper_at team1.threads.items i) start ≡ owed_kept f (s.threads + suc i) (keeper_at team.threads.items i) p)
+  began_with : (i : ℕ) → i < s.threads → owed_pair s team1.threads.items start i ≤ owed_pair s team.threads.items p i
   began_with i lt =
       let less : i < length team.threads.items = omega (arith, lt, at.workers.many) in
       let here : i < length team1.threads.items = omega (arith, lt, counted) in
@@ -306,14 +284,14 @@ module _ {region s awake team team1 team2 p : _} (ops : List Op) (rest : List (L
       let due = (begun.woke.turns.stand i d less).paid in
       let same = keeper_is team1.threads.items i d here ∙ (begun.woke.turns.told i d less).keeper ∙ sym (keeper_is team.threads.items i d less) in
       let parts = begun.woke.turns.leaves.parts keeper (λ j before same. omega (arith, before, same, at.workers.many)) in
-      (omega (arith, due), ap (λ (o : Option Keeper). owed_kept f keeper o start) same ∙ owed_still f keeper (keeper_at team.threads.items i) p start parts)
+      omega (arith, due, ap (λ (o : Option Keeper). owed_kept f keeper o start) same ∙ owed_still f keeper (keeper_at team.threads.items i) p start parts)
 
   -- The records that were said and those still owed fit the room.
   paid : length (records_by 0 said) + length (by_actors 1 s.threads said) + length (by_actors (s.threads + 1) s.threads said)
-      + (owed_by f reached s.threads + owed_by_keepers f s.threads team2.threads.items reached s.threads)
-      ≤ owed_by f start s.threads + owed_by_keepers f s.threads team1.threads.items start s.threads + records_of_ops (planned s) ops
+      + owed_by s team2.threads.items reached s.threads
+      ≤ owed_by s team1.threads.items start s.threads + records_of_ops (planned s) ops
   paid =
-      let threads = all_paid f (planned s) s.threads ops said team1.threads.items team2.threads.items start reached s.threads (λ i lt.
+      let threads = all_paid s ops said team1.threads.items team2.threads.items start reached s.threads (λ i lt.
       let less : i < length team1.threads.items = omega (arith, lt, counted) in
       let d = some_item team1.threads.items i less in
       let before = ap (λ (o : Option Keeper). owed_kept f (s.threads + suc i) o start) (keeper_is team1.threads.items i d less) in
@@ -340,11 +318,11 @@ module _ {region s awake team team1 team2 p : _} (ops : List Op) (rest : List (L
     sized : length gathered ≡ length team1.threads.items
     sized = g.many ∙ done.many
 
-    hands : (i : ℕ) (d : Worker) → i < length gathered → HandsOver f ops team1.book (suc i) (get_or gathered i d) reached.names
+    hands : (i : ℕ) (d : Worker) → i < length gathered → HandsOver f ops team1.book (suc i) (get_or gathered i d).requests reached.names
     unfolding share
     hands i d lt =
         let x = share i d (omega (arith, lt, sized)) in
-        handed (g.each i d (omega (arith, lt, g.many))).requests
+        subst (λ requests. HandsOver f ops team1.book (suc i) requests reached.names) (sym (g.each i d (omega (arith, lt, g.many))).requests)
         (x.done.hands_over x.rests.asked reached.names (woven.shares (owner_in s.threads ops (suc i))).names)
 
     -- The names that each worker asked for are ones that the book holds, so it may take them.
@@ -353,8 +331,7 @@ module _ {region s awake team team1 team2 p : _} (ops : List Op) (rest : List (L
         let held = names_held team.book.names in
         let limit : held ≡ names_held team2.book.names = ap names_held (sym (ap (λ (b : NameBook). b.names) done.book ∙ begun.names)) in
         record {
-          within = subst (λ n. AreWithin n (names_of (requests_in (get_or gathered i d).requests))) limit
-              (subst (AreWithin held) (sym (hands i d lt).noted) (names_within held (suc i) ops (below_front held ops left at.names.below)));
+          within = rw (sym limit, (hands i d lt).noted) (names_within held (suc i) ops (below_front held ops left at.names.below));
         }
 
     module _ (team3 : Team) (t : WereTaken gathered team3.threads.items team2.book team3.book) where
@@ -362,8 +339,8 @@ module _ {region s awake team team1 team2 p : _} (ops : List Op) (rest : List (L
       clear i d lt = cleared (g.each i d lt) (t.each i d (omega (arith, lt, g.many)))
 
       -- each keeper owes what it did before it was gathered
-      kept_owed : owed_by_keepers f s.threads team3.threads.items reached s.threads ≤ owed_by_keepers f s.threads team2.threads.items reached s.threads
-      kept_owed = kept_less f s.threads team2.threads.items team3.threads.items reached reached s.threads (λ i lt.
+      kept_owed : owed_by s team3.threads.items reached s.threads ≤ owed_by s team2.threads.items reached s.threads
+      kept_owed = owed_less s team2.threads.items team3.threads.items reached reached s.threads (λ i lt.
           let less : i < length team2.threads.items = omega (arith, lt, counted, done.many) in
           let d = some_item team2.threads.items i less in
           let owed = λ (o : Option Keeper). owed_kept f (s.threads + suc i) o reached in
@@ -374,14 +351,8 @@ module _ {region s awake team team1 team2 p : _} (ops : List Op) (rest : List (L
       -- The team stands where the whole phase came to.
       pub phase_team : IsScavengerCleared team2.scavenger team3.scavenger → HasPlaces s.threads team3 → TeamAt region s rest team3 reached
       phase_team scavenger places =
-          let names = names_then s.threads ops left team1.book team3.book (numbers_from 1 s.threads) gathered at.names begun.woke.turns.leaves.names woven begun.names
-          (λ i d lt.
-          let first : suc i ≡ 1 + i = omega arith in
-          subst (λ k. HandsOver f ops team1.book k (get_or gathered i d) reached.names) (first ∙ sym (number_at 1 s.threads i (omega (arith, lt, sized, counted)))) (hands i d lt))
-          (λ k some on.
-          let le = at.fit.within k (active_front k ops left on) in
-          let back : 1 + (k - 1) ≡ k = omega (arith, some) in
-          (k - 1, omega (arith, some, le, sized, counted), number_at 1 s.threads (k - 1) (omega (arith, some, le)) ∙ back))
+          let names = names_then s.threads ops left team1.book team3.book gathered at.names begun.woke.turns.leaves.names woven begun.names hands
+          (λ k on. (let le = at.fit.within k (active_front k ops left on) in omega (arith, le, sized, counted)))
           (subst (λ (b : NameBook). HasTaken b team3.book gathered) done.book t.taken) (t.held ∙ ap (λ (b : NameBook). names_held b.names) done.book)
           in
           record {
@@ -401,15 +372,24 @@ module _ {region s awake team team1 team2 p : _} (ops : List Op) (rest : List (L
             places = places;
           }
 
+  -- ---- the acts
+  woke : ((k : ℕ) → is_set awake k ≡ is_active ops k) → Reaches f (map Wakes (active_threads s.threads ops)) p start
+  woke alike =
+      let threads = length team.threads.items in
+      let wakes : awake_in awake threads ≡ active_threads s.threads ops = threads_alike (is_set awake) (is_active ops) threads alike
+      ∙ ap (λ n. active_threads n ops) at.workers.many in
+      subst (λ ks. Reaches f (map Wakes ks) p start) wakes begun.woke.turns.came.reaches
+
+  reaches : ((k : ℕ) → is_set awake k ≡ is_active ops k) → Reaches f (phase_acts s.threads ops) p reached
+  reaches alike =
+      reach_both f (map Wakes (active_threads s.threads ops)) (acts_of_ops (idle_threads s.threads ops) ops) p start reached (woke alike) woven.reaches
+
   -- ---- the records
   module _ (marks : ℕ) (out : Records) (room : HasRoom s (ops ∷ rest) marks team.threads.items out p) where
     -- there is still as much room after the reads of the epoch
     room_begun : HasRoom s (ops ∷ rest) marks team1.threads.items out start
     room_begun =
-        let owed = owed_less f p start s.threads (λ i lt. (began_with i lt).0) in
-        let kept = kept_less f s.threads team.threads.items team1.threads.items p start s.threads
-        (λ i lt. let same = (began_with i lt).1 in omega (arith, same)) in
-        omega (arith, owed, kept, room)
+        omega (arith, owed_less s team.threads.items team1.threads.items p start s.threads began_with, room)
 
     -- There is room for what the scavenger said in the phase behind the records.
     pub may_append : length (records_in out) + length (records_in team2.scavenger.out) ≤ room_of out
@@ -425,25 +405,23 @@ module _ {region s awake team team1 team2 p : _} (ops : List Op) (rest : List (L
       gather_fits = may_gather told marks out out1 added_own same room_begun
 
       module _ {gathered : List Worker} {out2 : Records} (g : WereGathered team2.threads.items gathered out1 out2) where
-        still_room : (team3 : Team) → WereTaken gathered team3.threads.items team2.book team3.book → HasRoom s rest marks team3.threads.items out2 reached
-        still_room team3 t =
-            omega (arith, kept_owed g team3 t, room_left told marks out out1 added_own same room_begun out2 g.added g.size)
-
-        -- What was marked is what the records hold.
-        all_written : AreMarked s p.records (records_in out) → AreWritten s reached.records (records_in out2)
-        all_written marked =
+        -- The phase is done, with the team before the phases left.
+        pub phase_done : ((k : ℕ) → is_set awake k ≡ is_active ops k) → AreMarked s p.records (records_in out) → (team3 : Team)
+            → WereTaken gathered team3.threads.items team2.book team3.book → IsScavengerCleared team2.scavenger team3.scavenger → HasPlaces s.threads team3
+            → {before after : Whole} → WentBy s (phase_stages s.threads ops) p reached before after
+            → PhaseDone region s ops rest marks team3 out out2 before after p
+        phase_done alike marked team3 t scavenger places went =
             let records : start.records ≡ p.records =
             begun.woke.turns.came.records_are ∙ ap (λ (rs : List Record). p.records ++ rs) begun.woke.silent ∙ append-nil p.records in
-            written told (records_in out) out1 out2 at.fit.fits (subst (λ rs. AreMarked s rs (records_in out)) (sym records) marked) added_own g.added
-
-  -- ---- the acts
-  reaches : ((k : ℕ) → is_set awake k ≡ is_active ops k) → Reaches f (phase_acts s.threads ops) p reached
-  reaches alike =
-      let threads = length team.threads.items in
-      let wakes : awake_in awake threads ≡ active_threads s.threads ops = threads_alike (is_set awake) (is_active ops) threads alike
-      ∙ ap (λ n. active_threads n ops) at.workers.many in
-      reach_both f (map Wakes (active_threads s.threads ops)) (acts_of_ops (idle_threads s.threads ops) ops) p start reached
-      (subst (λ ks. Reaches f (map Wakes ks) p start) wakes begun.woke.turns.came.reaches) woven.reaches
+            record {
+              reached = reached;
+              reaches = reaches alike;
+              team_at = phase_team g team3 t scavenger places;
+              written = written told (records_in out) out1 out2 at.fit.fits (rw records marked) added_own g.added;
+              room = omega (arith, kept_owed g team3 t, room_left told marks out out1 added_own same room_begun out2 g.added g.size);
+              size = g.size ∙ same;
+              went = went;
+            }
 
 -- ---- the stages of the phase
 module _ {region : SharedRegion} {s : Session} {awake : Mask4} {team team1 team2 : Team} {p : Progress} (ops : List Op) (rest : List (List Op))
@@ -493,26 +471,19 @@ module _ {region : SharedRegion} {s : Session} {awake : Mask4} {team team1 team2
         (λ k its. others k (in_its_hands w k its))
 
     -- a thread, and its keeper, which did nothing where there is none
-    pair_others : (i : ℕ) (d : Worker) (lt : i < length team1.threads.items) → is_active ops (suc i) ≡ true → (k : ℕ) → owner k ≡ suc i
-        → (pair_in s.threads (suc i) (get_or team1.threads.items i d).keeper k ≡ true) ⊎ (part k (own_list (suc i)) ≡ part k begin_at.list)
-    pair_others i d lt on k is =
-        search (arith, pair_within, pair_has, in_pair, pair_keeps, kept_nobody)
-
     thread_sorted : (i : ℕ) → i < length team1.threads.items → is_active ops (suc i) ≡ true
         → steps_by (in_hands owner (suc i)) since ≡ steps_by (in_hands owner (suc i)) made
     thread_sorted i lt on =
         let d = some_item team1.threads.items i lt in
         let o = (get_or team1.threads.items i d).keeper in
         busy_sorted (suc i) (pair_in s.threads (suc i) o) (heard.threads i d lt on) (pair_within s.threads ops i o (omega (arith, lt, begun.workers.many)) on)
-        (pair_others i d lt on)
+        (λ k is. search (arith, (heard.done.pieces (suc i)).threads, pair_within, pair_has, in_pair, pair_keeps, kept_nobody))
 
     -- the scavenger, and the threads that are idle
-    crew_others : (k : ℕ) → owner k ≡ 0 → (crew_in (idle_threads s.threads ops) k ≡ true) ⊎ (part k (own_list 0) ≡ part k begin_at.list)
-    crew_others k is = search (arith, cases_lt, among_here, owned_by, among_later, chosen_among)
-
     hand_sorted : (w : ℕ) → is_active ops w ≡ true → steps_by (in_hands owner w) since ≡ steps_by (in_hands owner w) made
     hand_sorted zero on = busy_sorted 0 (crew_in (idle_threads s.threads ops)) (heard.scavenger on)
-        (λ k its. search (arith, among_cases, among_chosen, cases_Bool, true≢false, owner_of, own_thread, scavenger_own s.threads ops)) crew_others
+        (λ k its. search (arith, among_cases, among_idle, cases_Bool, true≢false, owner_of, own_thread, scavenger_own s.threads ops))
+        (λ k is. search (arith, cases_lt, among_here, owned_by, among_later, idle_among))
     hand_sorted (suc i) on = thread_sorted i (let le = begun.ready.within (suc i) on in omega (arith, le, begun.workers.many)) on
 
     -- Each pair's steps are the same in both lists.
@@ -524,31 +495,9 @@ module _ {region : SharedRegion} {s : Session} {awake : Mask4} {team team1 team2
       → StandSo s before p.list → StandSo s mid begin_at.list → StandSo s after end_at.list → AreEarlier (looks_of ledger) after
       → WentBy s (phase_stages s.threads ops) p end_at before after
   phase_went alike {before} {mid} {after} first second stood midway stand each =
-      let threads = length team.threads.items in
-      let wakes : awake_in awake threads ≡ active_threads s.threads ops = threads_alike (is_set awake) (is_active ops) threads alike
-      ∙ ap (λ n. active_threads n ops) at.workers.many in
-      let woke = subst (λ (ks : List ℕ). Reaches s.profile (map Wakes ks) p begin_at) wakes begun.woke.turns.came.reaches in
       let two = went_sorted s (acts_of_ops (idle_threads s.threads ops) ops) owner (woven ops rest at begun heard.done).reaches second nobody_after_all stand
       (λ made told of. sorted second.0 mid made told (stand_all s mid begin_at.list midway nobody_before (of_first s second of))
       (λ k. ap (part k) (sym second.1) ∙ stand_all s after end_at.list stand nobody_after_all of k) (subst (AreEarlier (looks_of ledger)) second.1 each))
       in
+      let woke = woke ops rest at begun heard.done alike in
       went_both (went_alone s (map Wakes (active_threads s.threads ops)) woke first at.nobody nobody_before stood midway) two
-
--- ---- all together
--- A phase whose operations are all done, gathered and taken is done, with the team before the phases left.
-pub phase_done : {region s awake team team1 team2 p marks out out1 out2 gathered : _} (ops : List Op) (rest : List (List Op))
-    (at : PhaseAt region s ops rest marks team out p) (begun : HasBegun region s awake ops rest team team1 p)
-    (done : IsDone region (round_of s ops rest team1 begun.woke.turns.came.reached) team1 team2) → ((k : ℕ) → is_set awake k ≡ is_active ops k)
-    → records_in out1 ≡ records_in out ++ records_in team2.scavenger.out → room_of out1 ≡ room_of out → WereGathered team2.threads.items gathered out1 out2
-    → (team3 : Team) → WereTaken gathered team3.threads.items team2.book team3.book → IsScavengerCleared team2.scavenger team3.scavenger
-    → HasPlaces s.threads team3 → {before after : Whole} → WentBy s (phase_stages s.threads ops) p (reached ops rest at.team_at begun done) before after
-    → PhaseDone region s ops rest marks team3 out out2 before after p
-phase_done {s = s} {out = out} {out1} ops rest at begun done alike added size g team3 t scavenger places went = record {
-  reached = reached ops rest at.team_at begun done;
-  reaches = reaches ops rest at.team_at begun done alike;
-  team_at = phase_team ops rest at.team_at begun done g team3 t scavenger places;
-  written = all_written ops rest at.team_at begun done _ out at.room out1 added size g at.marked;
-  room = still_room ops rest at.team_at begun done _ out at.room out1 added size g team3 t;
-  size = g.size ∙ size;
-  went = went;
-}

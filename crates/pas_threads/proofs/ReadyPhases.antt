@@ -1,20 +1,20 @@
 -- What a phase of the team begins with: what its acts cost, owe and say in all; its threads read the epoch, its names are noted, and all hands are ready.
-use Rattle.std.proofs.Common.{◌≡◌, ◌≢◌, ℕ, zero, suc, ◌+◌, ◌<◌, ◌≤◌, ◌==◌, Bool, true, if◌then◌else◌, inl, inr, List, [], ◌∷◌, ◌++◌, length, get_or, Option}
-use Rattle.std.proofs.Common.{None, refl, ap, sym, ◌∙◌, arith, append_assoc, length-append, eq-eqb, ne_eqb, ◌-◌, subst, MatchOption, vec_capacity}
-use Rattle.std.{proofs.lemmas.{Bool.{cases_eq, false≢true, or_cases, or_right, or_left}, List.with_items_is}, specs.Vec.with_items}
+use Rattle.std.proofs.Common.{◌≡◌, ◌≢◌, ℕ, zero, suc, ◌+◌, ◌<◌, ◌≤◌, ◌==◌, true, if◌then◌else◌, List, [], ◌∷◌, ◌++◌, length, get_or, Option, refl, ap, sym, ◌∙◌}
+use Rattle.std.proofs.Common.{arith, append_assoc, length-append, eq-eqb, ne_eqb, ◌-◌, subst, MatchOption, vec_capacity, is_some, false, map}
+use Rattle.std.{proofs.lemmas.{Bool.{cases_eq, false≢true, or_right}, List.{with_items_is, get_or-map}}, specs.Vec.with_items}
 use Rattle.pas_profile.specs.declared.profile.Profile.{Profile}
 use Rattle.pas_trace.specs.{Asked.keeper_in, EveryPlan.{records_of_what, records_of_ops, own_records, all_ops, records_of_work}, declared.plan.Work.Work}
-use Rattle.pas_trace.specs.{declared.plan.Op.Op, Acts.{Act, Settles, act_kept, own_acts, scavenger_acts, idle_threads, is_active}, EveryPhase.FreesItsOwn}
+use Rattle.pas_trace.specs.{declared.plan.Op.Op, Acts.{act_kept, own_acts, scavenger_acts, idle_threads, is_active}, EveryPhase.FreesItsOwn}
 use Rattle.pas_trace.proofs.EveryPlan.{own_both}
 use Rattle.pas_answers.specs.{Answers.Progress, Ways.{records_by, by_actors}, Calls.owed_events, Fit.{costs_of, own_cost_of_act, own_costs_of, cost_of_work}}
 use Rattle.pas_answers.{specs.Fit.cost_of_what, proofs.{EachAct.all_front, SingleActs.sum_both}}
 use Rattle.pas_acts.{proofs.{ActsOfPlan.{idle_few, work_costs}, AtDesk.{sits_still, sits_for}, Naming.{sound_front, names_before}}, specs.Keepers.LaterKept}
 use Rattle.pas_acts.specs.{Pairs.for_guards, Works.Later, NameBooks.{NamesAt, names_asked, ArePlaced}, declared.names.NameBook.NameBook}
-use Rattle.pas_threads.specs.{Pairs.{said_by_keeper, owed_kept, keeper_at, owed_by_keepers, AreGuarded, no_more}, Sessions.{owed_by, Session, planned}}
-use Rattle.pas_threads.specs.{Sessions.{WorkerRests, AreResting, ScavengerRests, HasPlaces, TeamAt, WorkersRest}, Turns.{owed_at, said_by, said_kept}}
-use Rattle.pas_threads.specs.{Turns.{said_by_keepers, WokeAll}, declared.{workers.Worker.Worker, phases.Team.Team, scavenger.Scavenger.Scavenger}}
-use Rattle.pas_threads.{specs.{Hands.WorkerAt, Settling.ActorsStand, Performing.{Round, round, IsReady, ScavengerHas}}, proofs.Closing.turns_stand}
-use Rattle.pas_threads.proofs.{Staging.team_stands, TakingTurns.woke_rest, Keepers.{alike_same, guarded_alike, kept_waits, kept_still}}
+use Rattle.pas_threads.specs.{Pairs.{said_by_keeper, owed_kept, keeper_at, AreGuarded, no_more}, Sessions.{owed_by, Session, planned, WorkerRests, AreResting}}
+use Rattle.pas_threads.specs.{Sessions.{ScavengerRests, HasPlaces, TeamAt, WorkersRest}, Turns.{owed_at, said_by, said_kept, said_by_keepers, WokeAll}}
+use Rattle.pas_threads.specs.{declared.{workers.Worker.Worker, phases.Team.Team, scavenger.Scavenger.Scavenger}, Hands.WorkerAt, Settling.ActorsStand}
+use Rattle.pas_threads.{specs.Performing.{Round, round, IsReady, ScavengerHas}, proofs.{Closing.turns_stand, Staging.team_stands, TakingTurns.woke_rest}}
+use Rattle.pas_threads.proofs.Keepers.{guarded_alike, kept_waits, kept_still, none_there}
 use Rattle.pas_bits.specs.declared.mask.Mask4.{Mask4}
 use Rattle.pas_steps.specs.Lists.{Whole, part}
 use Rattle.pas_shared.specs.declared.region.SharedRegion.{SharedRegion}
@@ -30,14 +30,10 @@ own_kept : (o : Option ℕ) (k : ℕ) (op : Op) → own_cost_of_act k (act_kept 
 -- With one and without one.
 own_kept a k op = search arith
 
-own_if : (t : Bool) (o : Option ℕ) (f : Profile) (k : ℕ) (op : Op) (acts : List Act) (most : ℕ) → (op.actor == k) ≡ t → own_costs_of k acts ≤ most
-    → own_costs_of k (if t then act_kept o op ∷ (Settles op.actor ∷ acts) else acts) ≤ (if t then records_of_what f op.what else 0) + most
-own_if a o f k op acts most is few = search (arith, own_kept, cost_le)
-
 -- its acts cost no more than its operations
 pub own_costs : (f : Profile) (k : ℕ) (ops : List Op) → own_costs_of k (own_acts k ops) ≤ own_records f k ops
 own_costs f k [] = omega arith
-own_costs f k (op ∷ ops) = own_if (op.actor == k) (keeper_in op.what) f k op (own_acts k ops) (own_records f k ops) refl (own_costs f k ops)
+own_costs f k (op ∷ ops) = search (arith, own_kept, cost_le, op.actor == k, own_costs f k ops)
 
 -- ---- the scavenger
 all_scavenged : (f : Profile) (idle : List ℕ) (ops : List Op) → length idle ≤ f.threads → costs_of f.pages (scavenger_acts idle ops) ≤ own_records f 0 ops
@@ -64,20 +60,13 @@ one_more : (f : Profile) (op : Op) (ops : List Op) (n : ℕ) → own_by f (op �
 one_more f op ops zero = omega arith
 one_more f op ops (suc n) = let rest = one_more f op ops n in omega (arith, rest)
 
-not_it : (actor k count : ℕ) → actor ≢ k → (if actor == k then count else 0) ≡ 0
-not_it actor k count other = ap (λ (t : Bool). if t then count else 0) (ne_eqb actor k other)
-
-it_is : (actor k count : ℕ) → actor ≡ k → (if actor == k then count else 0) ≡ count
-it_is actor k count same = ap (λ (t : Bool). if t then count else 0) (eq-eqb actor k same)
-
 none_of_them : (actor count n : ℕ) → n < actor → (if actor == 0 then count else 0) + those_of actor count n ≡ 0
-none_of_them actor count zero far = let zero_not = not_it actor 0 count (λ (is : actor ≡ 0). omega (arith, is, far)) in omega (arith, zero_not)
-none_of_them actor count (suc n) far =
-    omega (arith, not_it actor (suc n) count (λ (is : actor ≡ suc n). omega (arith, is, far)), none_of_them actor count n (omega (arith, far)))
+none_of_them actor count zero far = grind (arith, ne_eqb)
+none_of_them actor count (suc n) far = let rest = none_of_them actor count n (omega (arith, far)) in grind (arith, rest, ne_eqb)
 
 one_at_most : (actor count n : ℕ) → (if actor == 0 then count else 0) + those_of actor count n ≤ count
-one_at_most actor count zero = search (arith, cases_eq, it_is, not_it)
-one_at_most actor count (suc n) = let rest = one_at_most actor count n in grind (arith, rest, cases_eq, it_is, none_of_them, not_it)
+one_at_most actor count zero = search (arith, actor == 0)
+one_at_most actor count (suc n) = let rest = one_at_most actor count n in grind (arith, rest, cases_eq, eq-eqb, ne_eqb, none_of_them)
 
 own_none : (f : Profile) (n : ℕ) → own_by f [] n ≡ 0
 own_none f zero = refl
@@ -96,30 +85,25 @@ by_last k zero rs =
 by_last k (suc n) rs =
     let rest = by_last (k + 1) n rs in grind (arith, rest, length-append)
 
+-- what a thread and its keeper owe, which is the worker's at this place
+abbrev pub owed_pair : Session → List Worker → Progress → ℕ → ℕ
+owed_pair s workers p i = owed_at s.profile (suc i) p + owed_kept s.profile (s.threads + suc i) (keeper_at workers i) p
+
 -- Each thread and its keeper said no more than what they owed before, and the thread's operations, pay for, with what they owe afterwards: so all did.
-pub all_paid : (f planned : Profile) (threads : ℕ) (ops : List Op) (said : List Record) (old new : List Worker) (p q : Progress) (n : ℕ)
-    → ((i : ℕ) → i < n → length (records_by (suc i) said) + length (records_by (threads + suc i) said)
-    + (owed_at f (suc i) q + owed_kept f (threads + suc i) (keeper_at new i) q)
-    ≤ owed_at f (suc i) p + owed_kept f (threads + suc i) (keeper_at old i) p + own_records planned (suc i) ops)
-    → length (by_actors 1 n said) + length (by_actors (threads + 1) n said) + (owed_by f q n + owed_by_keepers f threads new q n)
-    ≤ owed_by f p n + owed_by_keepers f threads old p n + own_by planned ops n
-all_paid f planned threads ops said old new p q zero few = omega arith
-all_paid f planned threads ops said old new p q (suc n) few =
-    let rest = all_paid f planned threads ops said old new p q n in grind (arith, rest, by_last)
+pub all_paid : (s : Session) (ops : List Op) (said : List Record) (old new : List Worker) (p q : Progress) (n : ℕ)
+    → ((i : ℕ) → i < n → length (records_by (suc i) said) + length (records_by (s.threads + suc i) said) + owed_pair s new q i
+    ≤ owed_pair s old p i + own_records (planned s) (suc i) ops)
+    → length (by_actors 1 n said) + length (by_actors (s.threads + 1) n said) + owed_by s new q n ≤ owed_by s old p n + own_by (planned s) ops n
+all_paid s ops said old new p q zero few = omega arith
+all_paid s ops said old new p q (suc n) few =
+    let rest = all_paid s ops said old new p q n in grind (arith, rest, by_last)
 
--- Where each thread owes at most what it owed, all together do.
-pub owed_less : (f : Profile) (p q : Progress) (n : ℕ) → ((i : ℕ) → i < n → owed_at f (suc i) q ≤ owed_at f (suc i) p) → owed_by f q n ≤ owed_by f p n
-owed_less f p q zero less = omega arith
-owed_less f p q (suc n) less =
-    let rest = owed_less f p q n in grind (arith, rest)
-
--- Where each keeper owes at most what it owed, all together do.
-pub kept_less : (f : Profile) (threads : ℕ) (old new : List Worker) (p q : Progress) (n : ℕ)
-    → ((i : ℕ) → i < n → owed_kept f (threads + suc i) (keeper_at new i) q ≤ owed_kept f (threads + suc i) (keeper_at old i) p)
-    → owed_by_keepers f threads new q n ≤ owed_by_keepers f threads old p n
-kept_less f threads old new p q zero less = omega arith
-kept_less f threads old new p q (suc n) less =
-    let rest = kept_less f threads old new p q n in grind (arith, rest)
+-- Where each thread and its keeper owe at most what they owed, all together do.
+pub owed_less : (s : Session) (old new : List Worker) (p q : Progress) (n : ℕ) → ((i : ℕ) → i < n → owed_pair s new q i ≤ owed_pair s old p i)
+    → owed_by s new q n ≤ owed_by s old p n
+owed_less s old new p q zero less = omega arith
+owed_less s old new p q (suc n) less =
+    let rest = owed_less s old new p q n in grind (arith, rest)
 
 -- ---- workers that said what is theirs
 pub said_in_order : (says : Worker → List Record) (k : ℕ) (workers : List Worker) (said : List Record)
@@ -132,21 +116,23 @@ said_in_order says k (w ∷ ws) said each =
     ∙ ap (λ (rs : List Record). records_by k said ++ rs)
     (said_in_order says (k + 1) ws said (λ i d lt. each (suc i) d (omega (arith, lt)) ∙ ap (λ j. records_by j said) (let is : k + suc i ≡ k + 1 + i = omega arith in is)))
 
-none_said : (workers : List Worker) → ((i : ℕ) (d : Worker) → i < length workers → (get_or workers i d).keeper ≡ None) → said_by_keepers workers ≡ []
+none_said : (workers : List Worker) → ((i : ℕ) (d : Worker) → i < length workers → is_some (get_or workers i d).keeper ≡ false) → said_by_keepers workers ≡ []
 none_said [] none = refl
-none_said (w ∷ ws) none =
-    ap (λ o. said_by_keeper o ++ said_by_keepers ws) (none 0 w (omega arith)) ∙ none_said ws (λ i d lt. none (suc i) d (omega (arith, lt)))
+none_said (w ∷ ws) none = ap (λ o. said_by_keeper o ++ said_by_keepers ws) (none_there w.keeper (none 0 w (omega arith)))
+    ∙ none_said ws (λ i d lt. none (suc i) d (omega (arith, lt)))
 
 -- .. for their keepers, of which there may be none
 pub kept_in_order : (threads : ℕ) {keepers : ℕ} (workers : List Worker) (said : List Record) → AreGuarded keepers workers
     → ((i : ℕ) (d : Worker) → i < length workers → said_kept (get_or workers i d) ≡ records_by (threads + suc i) said)
     → said_by_keepers workers ≡ by_actors (threads + 1) keepers said
-kept_in_order threads workers said a each = search (arith, said_in_order, none_said)
+kept_in_order threads workers said (true, many, all) each = search (arith, said_in_order)
+kept_in_order threads workers said (false, none, all) each = search (arith, none_said)
 
 -- what the keepers said is not more than what so many actors behind the threads said
 pub kept_few : (threads : ℕ) {keepers : ℕ} (workers : List Worker) (said : List Record) → AreGuarded keepers workers
     → length (by_actors (threads + 1) keepers said) ≤ length (by_actors (threads + 1) (length workers) said)
-kept_few threads workers said a = search arith
+kept_few threads workers said (true, many, all) = search arith
+kept_few threads workers said (false, none, all) = search arith
 
 -- those of so many actors are those of more, where none of the others said anything
 by_fewer : (k n m : ℕ) (said : List Record) → n ≤ m → ((j : ℕ) → k + n ≤ j → records_by j said ≡ []) → by_actors k m said ≡ by_actors k n said
@@ -177,14 +163,10 @@ by_all threads keepers most said le none =
 -- ---- rooms
 -- what the worker at this place has room for
 abbrev pub room_at : List Worker → ℕ → ℕ
-room_at [] i = 0
-room_at (w ∷ ws) zero = room_of w.out
-room_at (w ∷ ws) (suc i) = room_at ws i
+room_at ws i = get_or (map (λ (w : Worker). room_of w.out) ws) i 0
 
 pub room_is : (ws : List Worker) (i : ℕ) (d : Worker) → i < length ws → room_at ws i ≡ room_of (get_or ws i d).out
-room_is [] i d lt = absurd (omega (arith, lt))
-room_is (w ∷ ws) zero d lt = refl
-room_is (w ∷ ws) (suc i) d lt = room_is ws i d (omega (arith, lt))
+room_is ws i d lt = get_or-map (λ (w : Worker). room_of w.out) ws i d 0 lt
 
 -- for how many records each actor has room, beside those that its acts make in the phase and those that it owes
 abbrev pub spare_beside : Session → List Op → Team → Progress → ℕ → ℕ
@@ -205,10 +187,7 @@ round_of s ops rest team q = round s team.book ops (later_beside s ops (all_ops 
 -- ---- whose the operations are
 pub active_front : (k : ℕ) (ops left : List Op) → is_active ops k ≡ true → is_active (ops ++ left) k ≡ true
 active_front k [] left on = absurd (false≢true on)
-active_front k (op ∷ ops) left on = elim (or_cases (op.actor == k) (is_active ops k) on) [
-  | inl here ↦ or_left (op.actor == k) (is_active (ops ++ left) k) here
-  | inr later ↦ or_right (op.actor == k) (is_active (ops ++ left) k) (active_front k ops left later)
-]
+active_front k (op ∷ ops) left on = search (arith, op.actor == k, active_front k ops left)
 
 pub active_back : (k : ℕ) (ops left : List Op) → is_active left k ≡ true → is_active (ops ++ left) k ≡ true
 active_back k [] left on = on
@@ -261,7 +240,7 @@ woke_workers {s = s} awake {workers} {now} ops at many woke = record {
   many = many ∙ at.many;
   threads = woke_rest many at.threads woke;
   guarded = guarded_alike workers now many
-      (λ i d lt. alike_same (woke.turns.told i d lt).keeper) at.guarded;
+      (λ i d lt. ap is_some (woke.turns.told i d lt).keeper) at.guarded;
   kept = search (arith, kept_still) fits 400;
 }
 

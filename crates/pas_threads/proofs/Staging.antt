@@ -1,18 +1,19 @@
 -- The phases of a replay: acts without a mark, acts after one another, how stages follow each other, and what a settled ledger has of a team.
-use Rattle.std.proofs.Common.{◌≡◌, ℕ, zero, suc, ◌+◌, ◌-◌, ◌<◌, ◌≤◌, ◌==◌, Bool, true, if◌then◌else◌, inl, inr, List, [], ◌∷◌, ◌++◌, length, map, get_or}
-use Rattle.std.proofs.Common.{Option, Some, refl, ap, sym, ◌∙◌, subst, arith, append_assoc, ◌⊎◌, take, length-append, eq-eqb, true≢false, take_at}
+use Rattle.std.proofs.Common.{◌≡◌, ℕ, zero, suc, ◌+◌, ◌-◌, ◌<◌, ◌≤◌, ◌==◌, Bool, true, inl, inr, List, [], ◌∷◌, ◌++◌, length, map, get_or, Option, Some, refl}
+use Rattle.std.proofs.Common.{ap, sym, ◌∙◌, subst, arith, append_assoc, ◌⊎◌, take, length-append, eq-eqb, true≢false, take_at, All, false}
 use Rattle.std.{proofs.lemmas.{Bool.{cases_lt, cases_Bool}, Option.same_Some}, specs.List.AllByRecursion}
 use Rattle.pas_profile.{specs.declared.profile.Profile.Profile, proofs.Lists.all_both}
-use Rattle.pas_steps.specs.{Lists.{Whole, part, Triple}, Views.View, Desks.triples, declared.step.Made.Made}
+use Rattle.pas_steps.specs.{Lists.{Whole, part, Triple}, Desks.triples}
 use Rattle.pas_trace.specs.Acts.{Act, MarksPhase, MarksClose, Wakes, Ends, Lowers, active_threads, idle_threads, numbers_from, own_acts, act_kept, acts_of_work}
 use Rattle.pas_trace.specs.{Acts.{acts_of_ops, phase_acts}, Asked.work_of, EveryPlan.all_ops, declared.plan.Op.Op}
 use Rattle.pas_shared.specs.{Ruled.IsEarlier, Passes.{seat_of, view_of, IsPassOf}, declared.{region.SharedRegion.SharedRegion, pass.SharedPass.SharedPass}}
 use Rattle.pas_acts.specs.{Keepers.LaterKept, Pairs.KeeperWaits}
 use Rattle.pas_answers.specs.{Answers.Progress, Reaching.Reaches, Phases.{AreInPhases, StandFirst, AtMark}, Stages.{itself, in_hands, Stage, stage, Owners}}
 use Rattle.pas_answers.{specs.Stages.AreSorted, proofs.Reached.{reach_both, goes_on, both_by_stages}}
-use Rattle.pas_threads.specs.{Hands.HasPass, Settling.{StandsIn, PassStands, ActorsStand}, Left.KeepsOrder, Pairs.{no_more, kept_by_worker, AreGuarded}}
-use Rattle.pas_threads.specs.{Pairs.{HasKeeper, IsKeeperOf}, Sessions.{Session, closing_acts, WorkerHas, TeamAt, IsOfActors, StandSo, WentBy}}
-use Rattle.pas_threads.{specs.declared.{keeper.Keeper.Keeper, phases.Team.Team, workers.Worker.Worker}, proofs.Dealt.some_item}
+use Rattle.pas_threads.specs.{Settling.{StandsIn, KeeperStandsIn, WorkerStandsIn, IsUp, PassStands, ActorsStand}, Left.KeepsOrder, Pairs.no_more}
+use Rattle.pas_threads.specs.{Pairs.{kept_by_worker, AreGuarded, HasKeeper, IsKeeperOf}, Sessions.{Session, closing_acts, WorkerHas, TeamAt, IsOfActors}}
+use Rattle.pas_threads.{specs.{Sessions.{StandSo, WentBy}, declared.{keeper.Keeper.Keeper, phases.Team.Team, workers.Worker.Worker}}, proofs.Dealt.some_item}
+use Rattle.pas_threads.proofs.Keepers.{kept_there}
 use Rattle.pas_core.{specs.Orders.steps_by, proofs.Choosing.{part_of_chosen, steps_by_both, Within, steps_by_one, no_steps_by, as_many_steps}}
 use Rattle.pas_guard.proofs.Keepers.{part_both}
 
@@ -68,18 +69,14 @@ in_both f (x ∷ xs) ys p q r one two whole first second = (first.0, in_both f x
 pub earlier_both : {a b c : Whole} → IsEarlier a b → IsEarlier b c → IsEarlier a c
 earlier_both {a} {b} {c} one two = (two.0 ++ one.0, two.1 ∙ ap (λ (l : Whole). two.0 ++ l) one.1 ∙ sym (append_assoc two.0 one.0 a))
 
-none_more : (b : Bool) (m : Made) (v : View) → (if b then m ∷ v else v) ≡ [] → v ≡ []
--- By both values of the test.
-none_more a m v is = search arith
-
 -- who has no part in a list has none in its first steps
 none_first : (k : ℕ) (since l : Whole) → part k (since ++ l) ≡ [] → part k l ≡ []
 none_first k [] l is = is
-none_first k (t ∷ since) l is = none_first k since l (none_more (t.actor == k) t.made (part k (since ++ l)) is)
+none_first k (t ∷ since) l is = search (arith, t.actor == k, none_first k since l)
 
 -- ---- each actor
 -- What is so of the scavenger, of each thread and of each keeper is so of all actors.
-pub of_each_actor : {threads keepers : ℕ} (Is : ℕ → Type 0) → Is 0 → ((i : ℕ) → i < threads → Is (suc i)) → ((j : ℕ) → j < keepers → Is (threads + suc j))
+of_each_actor : {threads keepers : ℕ} (Is : ℕ → Type 0) → Is 0 → ((i : ℕ) → i < threads → Is (suc i)) → ((j : ℕ) → j < keepers → Is (threads + suc j))
     → (k : ℕ) → k ≤ threads + keepers → Is k
 of_each_actor Is scavenger thread keeper zero le = scavenger
 of_each_actor {threads} Is scavenger thread keeper (suc i) le = elim (cases_lt i threads) [
@@ -88,10 +85,12 @@ of_each_actor {threads} Is scavenger thread keeper (suc i) le = elim (cases_lt i
 ]
 
 -- There are as many workers with a keeper as keepers.
-pub some_keeper : {keepers : ℕ} (workers : List Worker) (j : ℕ) → j < keepers → AreGuarded keepers workers
+some_keeper : {keepers : ℕ} (workers : List Worker) (j : ℕ) → j < keepers → AreGuarded keepers workers
     → (w : Worker) × (j < length workers) × HasKeeper (get_or workers j w)
-some_keeper workers j lt (inr none) = absurd (omega (arith, none.0, lt))
-some_keeper workers j lt (inl all) = let below : j < length workers = omega (arith, lt, all.0) in let w = some_item workers j below in (w, below, all.1 j w below)
+some_keeper workers j lt (false, none, all) = absurd (omega (arith, none, lt))
+some_keeper workers j lt (true, many, all) =
+    let below : j < length workers = omega (arith, lt, many) in
+    let w = some_item workers j below in (w, below, kept_there (get_or workers j w).keeper (all j w below))
 
 -- ---- all actors at rest
 -- where an actor has the same part it stands
@@ -105,43 +104,37 @@ stands_with {region} {k} {l} pass is at =
     subst (λ x. IsPassOf region x × ((seat_of x).actor ≡ k) × (view_of x ≡ part k l)) (same_Some at.pass pass (sym at.present ∙ is)) (at.of, at.actor, at.made)
 
 -- a list that has the steps of an actor's pass has its part
-pub stands_so : {region : SharedRegion} {k : ℕ} {told : Whole} {slot : Option SharedPass} (l : Whole) (pass : SharedPass) → slot ≡ Some pass
+stands_so : {region : SharedRegion} {k : ℕ} {told : Whole} {slot : Option SharedPass} (l : Whole) (pass : SharedPass) → slot ≡ Some pass
     → PassStands region k told slot → StandsIn l pass → part k l ≡ part k told
 stands_so l pass is at stands = let its = stands_with pass is at in ap (λ (n : ℕ). part n l) (sym its.1) ∙ stands ∙ its.2
 
 module _ {region s slot workers told : _} (at : ActorsStand region s slot workers told) where
-  -- all their passes are of the region
-  pub thread_back : (i : ℕ) (d : Worker) → i < length workers → HasPass region (get_or workers i d).pass
-  thread_back i d lt = let here = at.threads i d lt in record { pass = here.pass; present = here.present; of = here.of }
-
-  of_region : (o : Option Keeper) → ((keeper : Keeper) → o ≡ Some keeper → IsPassOf region keeper.pass) → IsKeeperOf region o
+  up_one : (o : Option Keeper) → ((keeper : Keeper) → o ≡ Some keeper → IsPassOf region keeper.pass) → IsKeeperOf region o
   -- With one and without one.
-  of_region a each = search arith
+  up_one a each = search arith
 
-  -- The keeper of each worker has a pass of the region where all actors stand.
-  pub keeper_back : (i : ℕ) (d : Worker) → i < length workers → IsKeeperOf region (get_or workers i d).keeper
-  keeper_back i d lt = of_region (get_or workers i d).keeper (λ keeper is. (stands_with keeper.pass refl (at.keepers i d keeper lt is)).0)
+  -- Both actors of each worker have passes of the region.
+  pub all_up : All (IsUp region) workers
+  all_up i d lt =
+      let here = at.threads i d lt in (
+        record { pass = here.pass; present = here.present; of = here.of },
+        up_one (get_or workers i d).keeper (λ keeper is. (stands_with keeper.pass refl (at.keepers i d keeper lt is)).0),
+      )
 
-  -- a list that has the steps of all passes has the part of each actor
-  module _ (l : Whole) (scavenger : (pass : SharedPass) → slot ≡ Some pass → StandsIn l pass)
-      (threads : (i : ℕ) (d : Worker) (pass : SharedPass) → i < length workers → (get_or workers i d).pass ≡ Some pass → StandsIn l pass)
-      (keepers : (i : ℕ) (d : Worker) (keeper : Keeper) → i < length workers → (get_or workers i d).keeper ≡ Some keeper → StandsIn l keeper.pass) where
-    stand_thread : (i : ℕ) → i < s.threads → part (suc i) l ≡ part (suc i) told
-    stand_thread i lt =
-        let below : i < length workers = omega (arith, lt, at.many) in
-        let d = some_item workers i below in
-        let here = at.threads i d below in
-        stands_so l here.pass here.present here (threads i d here.pass below here.present)
+  -- What is so of the scavenger, of the thread of each worker and of each keeper is so of all actors.
+  pub of_all : (Is : ℕ → Type 0) → Is 0 → ((i : ℕ) (d : Worker) → i < length workers → Is (suc i))
+      → ((i : ℕ) (d : Worker) (keeper : Keeper) → i < length workers → (get_or workers i d).keeper ≡ Some keeper → Is (s.threads + suc i))
+      → (k : ℕ) → k ≤ s.threads + s.keepers → Is k
+  of_all Is first thread keeper = of_each_actor Is first
+      (λ i lt. let below : i < length workers = omega (arith, lt, at.many) in thread i (some_item workers i below) below)
+      (λ j lt. let has = some_keeper workers j lt at.guarded in keeper j has.0 has.2.0 has.1 has.2.1)
 
-    stand_keeper : (j : ℕ) → j < s.keepers → part (s.threads + suc j) l ≡ part (s.threads + suc j) told
-    stand_keeper j lt =
-        let has = some_keeper workers j lt at.guarded in
-        stands_so l has.2.0.pass refl (at.keepers j has.0 has.2.0 has.1 has.2.1) (keepers j has.0 has.2.0 has.1 has.2.1)
-
-    -- A list in which each pass stands has of all actors what is told of them.
-    pub all_stand : StandSo s l told
-    all_stand = of_each_actor (λ (k : ℕ). part k l ≡ part k told)
-        (stands_so l at.scavenger.pass at.scavenger.present at.scavenger (scavenger at.scavenger.pass at.scavenger.present)) stand_thread stand_keeper
+  -- A list in which each pass stands has of all actors what is told of them.
+  pub all_stand : (l : Whole) → ((pass : SharedPass) → slot ≡ Some pass → StandsIn l pass) → All (WorkerStandsIn l) workers → StandSo s l told
+  all_stand l scavenger each = of_all (λ (k : ℕ). part k l ≡ part k told)
+      (stands_so l at.scavenger.pass at.scavenger.present at.scavenger (scavenger at.scavenger.pass at.scavenger.present))
+      (λ i d lt. let here = at.threads i d lt in stands_so l here.pass here.present here ((each i d lt).0 here.pass here.present))
+      (λ i d keeper lt is. stands_so l keeper.pass refl (at.keepers i d keeper lt is) (subst (KeeperStandsIn l) is (each i d lt).1))
 
 -- a thread that rests with its pass stands
 pub thread_stands : {region f k worker later p : _} → WorkerHas region f k worker later p → PassStands region k p.list worker.pass
@@ -234,27 +227,6 @@ sorted_alone : (since made : Whole) → ((k : ℕ) → part k since ≡ part k m
 sorted_alone since made same w =
     steps_by_one (in_hands itself w) w since (λ j. refl) ∙ ap (triples w) (same w) ∙ sym (steps_by_one (in_hands itself w) w made (λ j. refl))
 
--- Acts in order, behind which the ledger is settled, went by one stage of their own.
-pub went_alone : (s : Session) (acts : List Act) {p q : Progress} {before after : Whole} → Reaches s.profile acts p q → IsEarlier before after
-    → IsOfActors s p.list → IsOfActors s q.list → StandSo s before p.list → StandSo s after q.list
-    → WentBy s (stage acts itself ∷ []) p q before after
-went_alone s acts {p} {q} {before} {after} reaches earlier none nobody stood stand = record {
-  earlier = earlier;
-  stand = stand;
-  nobody = nobody;
-  by_stages = λ of.
-      let on = goes_on s.profile acts p q reaches in
-      let sorted = sorted_alone earlier.0 on.0 (λ k. front_same k earlier.0 before on.0 p.list
-      (ap (part k) (sym earlier.1) ∙ stand_all s after q.list stand nobody of k ∙ ap (part k) on.1) (stand_all s before p.list stood none (of_first s earlier of) k)) in
-      (record { next = q; reaches = reaches; made = on.0; told = on.1; since = earlier.0; sorted = sorted }, (refl, earlier.1));
-}
-
--- .. a mark, at which nothing is done
-pub went_mark : (s : Session) (acts : List Act) {p q : Progress} {l : Whole} → Reaches s.profile acts p q → q.list ≡ p.list → IsOfActors s p.list
-    → StandSo s l p.list → WentBy s (stage acts itself ∷ []) p q l l
-went_mark s acts {p} {q} {l} reaches same none stood =
-    went_alone s acts reaches ([], refl) none (subst (IsOfActors s) (sym same) none) stood (subst (StandSo s l) (sym same) stood)
-
 -- a stage in which a worker has several actors in hand, where each worker's steps are sorted
 pub went_sorted : (s : Session) (acts : List Act) (owner : Owners) {p q : Progress} {before after : Whole} → Reaches s.profile acts p q
     → (earlier : IsEarlier before after) → IsOfActors s q.list → StandSo s after q.list
@@ -267,6 +239,21 @@ went_sorted s acts owner {p} {q} {before} {after} reaches earlier nobody stand s
       let on = goes_on s.profile acts p q reaches in
       (record { next = q; reaches = reaches; made = on.0; told = on.1; since = earlier.0; sorted = sorted on.0 on.1 of }, (refl, earlier.1));
 }
+
+-- Acts in order, behind which the ledger is settled, went by one stage of their own.
+pub went_alone : (s : Session) (acts : List Act) {p q : Progress} {before after : Whole} → Reaches s.profile acts p q → IsEarlier before after
+    → IsOfActors s p.list → IsOfActors s q.list → StandSo s before p.list → StandSo s after q.list
+    → WentBy s (stage acts itself ∷ []) p q before after
+went_alone s acts {p} {q} {before} {after} reaches earlier none nobody stood stand =
+    went_sorted s acts itself reaches earlier nobody stand (λ made told of. sorted_alone earlier.0 made (λ k.
+    let all = ap (part k) (sym earlier.1) ∙ stand_all s after q.list stand nobody of k ∙ ap (part k) told in
+    front_same k earlier.0 before made p.list all (stand_all s before p.list stood none (of_first s earlier of) k)))
+
+-- .. a mark, at which nothing is done
+pub went_mark : (s : Session) (acts : List Act) {p q : Progress} {l : Whole} → Reaches s.profile acts p q → q.list ≡ p.list → IsOfActors s p.list
+    → StandSo s l p.list → WentBy s (stage acts itself ∷ []) p q l l
+went_mark s acts {p} {q} {l} reaches same none stood =
+    went_alone s acts reaches ([], refl) none (subst (IsOfActors s) (sym same) none) stood (subst (StandSo s l) (sym same) stood)
 
 -- ---- the steps of several actors in one worker's hands
 -- two tests choose the same steps where they differ in actors without a part alone

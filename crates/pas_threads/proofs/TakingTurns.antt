@@ -1,18 +1,17 @@
 -- Workers in a row that take turns: threads read the epoch before a phase and are stopped at the close, one after the other; what they said is gathered, and
 -- what a ledger heard of each, and of the benches that the hands of a phase left.
 use Rattle.std.proofs.Common.{arith, ◌≡◌, ℕ, ◌<◌, List, [], ◌++◌, length, get_or, sym, ◌∙◌, subst, ◌≢◌, inl, inr, ◌∷◌, set, refl, ap, append_assoc, suc, ◌+◌}
-use Rattle.std.proofs.Common.{◌-◌, ◌≤◌, true, false, map, length-append, drop, drop_of_length-le, append-nil, get_or-set_other, Option, true≢false}
-use Rattle.std.proofs.{lemmas.{List.{get_or_default, drop_more, get_or_push}, Bool.{cases_eq, cases_lt}, Grind.get_or-set_at}, Math.ListN.get_or-append}
-use Rattle.std.specs.List.{filter}
+use Rattle.std.proofs.{Common.{◌-◌, ◌≤◌, true, false, map, length-append, append-nil, get_or-set_other, Option}, lemmas.List.{get_or_default, get_or_push}}
+use Rattle.std.{proofs.{lemmas.{Bool.{cases_eq, cases_lt}, Grind.get_or-set_at}, Math.ListN.get_or-append}, specs.List.filter}
 use Rattle.pas_answers.specs.{Names.names_held, Answers.Progress, Ways.{EachOf, records_by}, Calls.owed_events, Fit.own_cost_of_act}
 use Rattle.pas_answers.proofs.{OwnRecords.{records_both, none_by, all_by}, Reached.reach_both}
 use Rattle.pas_acts.specs.{declared.names.NameBook.NameBook, Keepers.StandsStill, Works.Later, NameBooks.{requests_in, room_for}, Awake.awake_in, AtDesks.here}
 use Rattle.pas_acts.{specs.AtDesks.ThreadActs, proofs.{AtDesk.{leaves_rest, rests_still}, ActsLeft.{acts_there, next_chosen, next_passed, none_left}}}
-use Rattle.pas_threads.specs.{Taken.{IsEmptied, HasTaken}, Hands.standing_of_pass, Left.HasLeft, Turns.{said_by, said_by_all, said_by_keepers, HasSaid}}
-use Rattle.pas_threads.specs.Turns.{IsOwnGathered, IsKeptGathered, AreDistinct, Came, Pushed, Told, TookNoPart, Turn, TookTurns, owed_at, IsDue, WokeAll}
-use Rattle.pas_threads.specs.{Turns.{IsGathered, Woke}, declared.{scavenger.Scavenger.Scavenger, workers.Worker.Worker, phases.Team.Team}, Sessions.evenly}
-use Rattle.pas_threads.specs.{Sessions.{WorkerHas, WorkerRests, AreResting, HasPlaces}, Settling.{HasHeard, HasBench, IsButBench, SawMore, with_bench}}
-use Rattle.pas_threads.specs.Performing.{Round, ThreadDone, ScavengerDone, HeardOrder, IsHeard, HaveActed}
+use Rattle.pas_threads.specs.{Taken.{IsEmptied, HasTaken, HandsOver}, Hands.standing_of_pass, Left.HasLeft, Turns.{HasSaid, IsOwnGathered, IsKeptGathered}}
+use Rattle.pas_threads.specs.Turns.{AreDistinct, Came, Pushed, Told, TookNoPart, Turn, TookTurns, owed_at, IsDue, WokeAll, IsGathered, Woke}
+use Rattle.pas_threads.specs.{declared.{scavenger.Scavenger.Scavenger, workers.Worker.Worker, phases.Team.Team}, Sessions.{evenly, WorkerHas, WorkerRests}}
+use Rattle.pas_threads.specs.{Sessions.{AreResting, HasPlaces}, Settling.{HasHeard, HasBench, IsButBench, SawMore, with_bench}, Performing.{Round, ThreadDone}}
+use Rattle.pas_threads.specs.Performing.{ScavengerDone, HeardOrder, IsHeard, HaveActed}
 use Rattle.pas_profile.specs.declared.profile.Profile.{Profile}
 use Rattle.pas_steps.specs.{Lists.{Whole, part}, Desks.Standing}
 use Rattle.pas_trace.specs.Acts.{Act, Wakes, numbers_from, is_active}
@@ -21,20 +20,6 @@ use Rattle.pas_shared.specs.{declared.rule.Row.Row, Ruled.{IsEarlier, AreEarlier
 use Rattle.pas_bits.specs.{Masks.is_set, declared.mask.Mask4.Mask4}
 use Rattle.pas_cache.specs.Caches.{Cached, cached}
 use Rattle.pas_records.specs.{Rooms.{records_in, room_of, Records}, declared.record.Record.Record}
-
--- All that these workers said came to the end of the records, for their threads and then for their keepers.
-pub record WereGathered (old new : List Worker) (out out' : Records) : Type 0 where
-  pub added : records_in out' ≡ records_in out ++ (said_by_all old ++ said_by_keepers old)
-  pub size : room_of out' ≡ room_of out
-  pub each : (i : ℕ) (d : Worker) → i < length old → IsGathered (get_or old i d) (get_or new i d)
-  pub many : length new ≡ length old
-
--- What was gathered of these workers was gathered of those that they are.
-pub were_gathered : {given old : List Worker} (new : List Worker) (out out' : Records) → given ≡ old
-    → records_in out' ≡ records_in out ++ (said_by_all given ++ said_by_keepers given) → room_of out' ≡ room_of out
-    → ((i : ℕ) (d : Worker) → i < length given → IsGathered (get_or given i d) (get_or new i d)) → length new ≡ length given → WereGathered old new out out'
-were_gathered new out out' value added size each many =
-    subst (λ (ws : List Worker). WereGathered ws new out out') value (record { added = added; size = size; each = each; many = many })
 
 -- the book took over what these workers asked for
 pub record WereTaken (old new : List Worker) (book book' : NameBook) : Type 0 where
@@ -98,11 +83,9 @@ pushed_none {k} {said} {out} none = record { added = sym (append-nil (records_in
 
 -- What an actor said of two parts, one after the other, came to the end of its records.
 pub pushed_both : {k : ℕ} {xs ys : List Record} {a b c : Records} → Pushed k xs a b → Pushed k ys b c → Pushed k (xs ++ ys) a c
-pushed_both {k} {xs} {ys} {a} {b} {c} one two = record {
-  added = two.added ∙ ap (λ (rs : List Record). rs ++ records_by k ys) one.added ∙ append_assoc (records_in a) (records_by k xs) (records_by k ys)
-      ∙ ap (λ (rs : List Record). records_in a ++ rs) (sym (records_both k xs ys));
-  room = two.room ∙ one.room;
-}
+pushed_both {k} {xs} {ys} {a} {b} {c} one two =
+    let both = append_assoc (records_in a) (records_by k xs) (records_by k ys) in
+    record { added = cc (two.added, one.added, both, records_both k xs ys); room = two.room ∙ one.room }
 
 -- A worker of whose thread nothing is said is as it was.
 pub told_none : {k : ℕ} {said : List Record} {w : Worker} → records_by k said ≡ [] → Told k said w w
@@ -339,57 +322,6 @@ pub gathered : {old mid new : Worker} → IsOwnGathered old mid → IsKeptGather
 -- All of these are as the first left them, or as the second did.
 gathered {new = new} g h = search arith
 
--- Workers say the same where each does.
-pub said_alike : (says : Worker → List Record) (old new : List Worker) → length new ≡ length old
-    → ((i : ℕ) (d : Worker) → i < length old → says (get_or new i d) ≡ says (get_or old i d)) → said_by says new ≡ said_by says old
-said_alike says [] [] many each = refl
-said_alike says [] (v ∷ vs) many each = absurd (omega (arith, many))
-said_alike says (w ∷ ws) [] many each = absurd (omega (arith, many))
-said_alike says (w ∷ ws) (v ∷ vs) many each =
-    ap (λ rs. rs ++ said_by says vs) (each 0 w (omega arith))
-    ∙ ap (λ rs. says w ++ rs) (said_alike says ws vs (omega (arith, many)) (λ i d lt. each (suc i) d (omega (arith, lt))))
-
--- Of these workers those before place i are gathered, and the others are as they were. What they say still comes after what was gathered.
-pub record AreGathered (says : Worker → List Record) (Is : Worker → Worker → Type 0) (i : ℕ) (old now : List Worker) (before said : List Record) : Type 0 where
-  pub said_are : said ++ said_by says (drop i old) ≡ before ++ said_by says old
-  pub done : (j : ℕ) (d : Worker) → j < i → j < length old → Is (get_or old j d) (get_or now j d)
-  pub left : (j : ℕ) (d : Worker) → i ≤ j → get_or now j d ≡ get_or old j d
-
-module _ (says : Worker → List Record) (Is : Worker → Worker → Type 0) where
-  -- Before anything is gathered, the records are as they were.
-  pub gather_begins : (old : List Worker) (before : List Record) → AreGathered says Is 0 old old before before
-  gather_begins old before = record { said_are = refl; done = λ j d less within. absurd (omega (arith, less)); left = λ j d from. refl }
-
-  -- what the worker at this place says comes first of what is left
-  next_said : (i : ℕ) (old now : List Worker) (before said : List Record) (d : Worker) → i < length old → AreGathered says Is i old now before said
-      → said ++ (says (get_or now i d) ++ said_by says (drop (i + 1) old)) ≡ before ++ said_by says old
-  next_said i old now before said d lt so =
-      search (arith, drop_more)
-
-  -- After one more worker what it said stands behind the records.
-  pub gather_goes_on : {i old now before said said' : _} (d w : Worker) → i < length old → length now ≡ length old → AreGathered says Is i old now before said
-      → said' ≡ said ++ says (get_or now i d) → Is (get_or now i d) w → AreGathered says Is (i + 1) old (set now i w) before said'
-  gather_goes_on {i} {old} {now} {before} {said} {said'} d w lt many so added one = record {
-    said_are = cc (append_assoc said (says (get_or now i d)) (said_by says (drop (i + 1) old)), next_said i old now before said d lt so);
-    done = λ j e less within. set_each (λ (m : ℕ) (x : Worker). Is (get_or old m e) x) now i w e j (omega (arith, lt, many))
-        (subst (λ (x : Worker). Is x w) (so.left i d (omega arith) ∙ get_or_default old i d e lt) one) (λ ne. so.done j e (omega (arith, less, ne)) within);
-    left = λ j e from. let ne : j ≢ i = λ (is : j ≡ i). omega (arith, is, from) in get_or-set_other now i j w e ne ∙ so.left j e (omega (arith, from));
-  }
-
-  -- there is room for what the next one says, where there is for all
-  pub next_fits : (i : ℕ) (old now : List Worker) (before said : List Record) (d : Worker) {room : ℕ} → i < length old
-      → AreGathered says Is i old now before said → length before + length (said_by says old) ≤ room → length said + length (says (get_or now i d)) ≤ room
-  next_fits i old now before said d lt so fits =
-      let mine = says (get_or now i d) in
-      let rest = said_by says (drop (i + 1) old) in
-      let all = ap length (next_said i old now before said d lt so) in
-      omega (arith, all, length-append said (mine ++ rest), length-append mine rest, length-append before (said_by says old), fits)
-
-  -- Once each worker had its turn, all that they said stands behind the records.
-  pub gather_ends : {i old now before said : _} → length old ≤ i → AreGathered says Is i old now before said → said ≡ before ++ said_by says old
-  gather_ends {i} {old} {now} {before} {said} le so =
-      sym (append-nil said) ∙ ap (λ (ws : List Worker). said ++ said_by says ws) (sym (drop_of_length-le old le)) ∙ so.said_are
-
 -- what was seen before, and what came to it
 pub looks_apart : (es ds : List (List Entry)) (l : Whole) → AreEarlier (es ++ ds) l → AreEarlier es l × AreEarlier ds l
 looks_apart [] ds l all = (tt, all)
@@ -399,37 +331,6 @@ looks_apart (e ∷ es) ds l all = let rest = looks_apart es ds l all.1 in ((all.
 pub first_of : (looks : List (List Entry)) (l : Whole) → AreEarlier looks l → IsEarlier (first_look looks) l
 first_of [] l all = (l, sym (append-nil l))
 first_of (e ∷ looks) l all = all.0
-
--- the workers of the mask before this place are heard, and no bench of a later one is gone
-pub record HeardSoFar (awake : Mask4) (i : ℕ) (old now : List Worker) (first ledger : Ledger) : Type 0 where
-  pub saw : SawMore first ledger
-  pub heard : (j : ℕ) (d : Worker) → j < i → j < length old → is_set awake (suc j) ≡ true → HasHeard ledger (get_or old j d).bench
-  pub same : (j : ℕ) (d : Worker) → j < length old → IsButBench (get_or old j d) (get_or now j d)
-  pub left : (j : ℕ) (d : Worker) → i ≤ j → get_or now j d ≡ get_or old j d
-
--- .. and of the next one, too
-pub hears_next : {awake : Mask4} {i : ℕ} {old now : List Worker} {first ledger ledger' : Ledger} (d : Worker) (gone : Option Bench) → i < length old
-    → length now ≡ length old → HeardSoFar awake i old now first ledger → SawMore ledger ledger' → HasHeard ledger' (get_or now i d).bench
-    → HeardSoFar awake (i + 1) old (set now i (with_bench (get_or now i d) gone)) first ledger'
-hears_next {awake} {i} {old} {now} {first} {ledger} {ledger'} d gone lt many so saw heard = record {
-  saw = λ l begins. so.saw l (saw l begins);
-  heard = search (arith, cases_eq, get_or_default) fits 400;
-  same = λ j e less. set_each (λ (m : ℕ) (w : Worker). IsButBench (get_or old m e) w) now i (with_bench (get_or now i d) gone) e j (omega (arith, lt, many))
-      (ap (λ (w : Worker). with_bench w gone) (so.left i d (omega arith) ∙ get_or_default old i d e lt)) (λ ne. so.same j e less);
-  left = λ j e le. let ne : j ≢ i = λ (is : j ≡ i). omega (arith, is, le) in get_or-set_other now i j (with_bench (get_or now i d) gone) e ne ∙ so.left j e (omega (arith, le));
-}
-
--- .. where that one is none of the mask
-pub hears_pass : {awake : Mask4} {i : ℕ} {old now : List Worker} {first ledger : Ledger} → is_set awake (i + 1) ≡ false
-    → HeardSoFar awake i old now first ledger → HeardSoFar awake (i + 1) old now first ledger
-hears_pass {awake} {i} {old} off so = search (arith, true≢false)
-
--- the next one has its bench still
-pub bench_next : {region awake i old now first ledger : _} (d : Worker) → i < length old → HeardSoFar awake i old now first ledger → is_set awake (i + 1) ≡ true
-    → ((j : ℕ) (e : Worker) → j < length old → is_set awake (suc j) ≡ true → HasBench region (get_or old j e).bench) → HasBench region (get_or now i d).bench
-bench_next {region} {awake} {i} d lt so on has =
-    subst (λ (w : Worker). HasBench region w.bench) (sym (so.left i d (omega arith)))
-    (has i d lt (ap (is_set awake) (let is : suc i ≡ i + 1 = omega arith in is) ∙ on))
 
 -- ---- the ledger heard of the benches that the hands of a phase left
 -- A bench was left in its slot, of the same region.
@@ -461,7 +362,7 @@ thread_but {region} {r} {k} {old} {new} {new'} {said} {q} same done =
       paid = done.paid;
       noted = done.noted;
       room_noted = done.room_noted;
-      hands_over = λ none names among. let over = done.hands_over none names among in record { noted = over.noted; says = over.says };
+      hands_over = done.hands_over;
     })
 
 -- the scavenger with this in place of its bench

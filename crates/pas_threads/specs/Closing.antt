@@ -5,11 +5,12 @@ use Rattle.pas_trace.specs.{Acts.{Act, own_acts}, EveryPlan.own_records, declare
 use Rattle.pas_records.specs.declared.record.Record.{Record}
 use Rattle.pas_steps.specs.Lists.{Whole}
 use Rattle.pas_cache.specs.Caches.{cached}
-use Rattle.pas_shared.specs.declared.region.SharedRegion.{SharedRegion}
+use Rattle.pas_shared.specs.declared.{region.SharedRegion.SharedRegion, pass.SharedPass.SharedPass}
 use Rattle.pas_answers.specs.{Answers.Progress, Reaching.Reaches, Stages.one_by_one, Ways.{AreSpoken, records_by}}
 use Rattle.pas_acts.specs.Pairs.{KeeperWaits, KeptPushed}
-use Rattle.pas_threads.specs.{Pairs.{kept_by_worker, no_more, owed_kept, IsKeeperOf, IsLow}, Sessions.{Session, planned, evenly, closing_acts, WorkerHas}}
-use Rattle.pas_threads.specs.{Sessions.WentBy, Turns.{owed_at, Came, Pushed, TookNoPart}, declared.{keeper.Keeper.Keeper, workers.Worker.Worker}}
+use Rattle.pas_threads.specs.{Pairs.{AreGuarded, kept_by_worker, no_more, owed_kept, IsKeeperOf, IsLow}, Sessions.{Session, planned, evenly, closing_acts}}
+use Rattle.pas_threads.specs.{Sessions.{WorkerHas, WentBy, StandSo, WorkersRest}, Settling.ActorsStand, Turns.{owed_at, Came, Pushed, TookNoPart}}
+use Rattle.pas_threads.specs.declared.{keeper.Keeper.Keeper, workers.Worker.Worker}
 
 -- ---- the actors of a worker, where the replay came as far as q, and this was said
 -- The thread rests there with room for these operations. What it said came to the end of its records.
@@ -36,6 +37,12 @@ pub record IsClosing (region : SharedRegion) (s : Session) (i j : ℕ) (said : L
   pub low : s.threads + j < i → IsLow new.keeper
   pub left : i ≤ s.threads + j → new.keeper ≡ old.keeper
 
+-- All workers rest, all actors stand, and the ledger has their steps.
+pub record MayClose (region : SharedRegion) (s : Session) (slot : Option SharedPass) (workers : List Worker) (so_far : Whole) (p : Progress) : Type 0 where
+  pub rest : WorkersRest region s [] workers p
+  pub stand : ActorsStand region s slot workers p.list
+  pub stood : StandSo s so_far p.list
+
 -- So it is of all of them; and nobody but those actors took part.
 pub record ClosedFirst (region : SharedRegion) (s : Session) (i : ℕ) (old new : List Worker) (p : Progress) : Type 0 where
   pub came : Came s.profile (take i (closing_acts s.threads s.keepers)) p
@@ -43,6 +50,13 @@ pub record ClosedFirst (region : SharedRegion) (s : Session) (i : ℕ) (old new 
   pub each : (j : ℕ) (d : Worker) → j < length old → IsClosing region s i j came.said (get_or old j d) (get_or new j d) p came.reached
   pub others : (k : ℕ) → ((m : ℕ) → m < i → m < s.threads + s.keepers → suc m ≢ k) → TookNoPart k came.said p came.reached
   pub names : came.reached.names ≡ p.names
+
+-- these workers are as many as before, and there is an actor at place i
+pub record MayCloseAt (s : Session) (i : ℕ) (old now : List Worker) : Type 0 where
+  pub threads : s.threads ≡ length old
+  pub many : length now ≡ length old
+  pub guarded : AreGuarded s.keepers old
+  pub there : i < s.threads + s.keepers
 
 -- The actor at place i is there, and made its act.
 pub record ClosesNext (region : SharedRegion) (s : Session) (i : ℕ) (old now new : List Worker) (p : Progress) (so : ClosedFirst region s i old now p) : Type 0 where

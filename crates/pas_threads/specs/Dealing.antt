@@ -1,30 +1,32 @@
--- How the workers of the threads are dealt into those of a mask and the others.
-use Rattle.std.specs.Prelude.{ℕ, zero, suc, ◌+◌, ◌≡◌, Bool, not, if◌then◌else◌, List, [], ◌∷◌, map, length}
-use Rattle.pas_bits.specs.{Masks.is_set, declared.mask.Mask4.Mask4}
-use Rattle.pas_threads.specs.declared.{workers.Worker.Worker, hands.Hand.{Hand, TheVariants.Thread}}
+-- How the workers of the threads are dealt into those that are chosen and the others.
+use Rattle.std.specs.Prelude.{ℕ, zero, suc, ◌≡◌, Bool, not, if◌then◌else◌, List, [], ◌∷◌, ◌++◌, length}
+use Rattle.pas_threads.specs.declared.workers.Worker.{Worker}
 
--- of what belongs to the numbers from k on, that whose numbers are chosen, in order
-abbrev pub picked : {A : Type 0} → (ℕ → Bool) → ℕ → List A → List A
-picked chosen k [] = []
-picked chosen k (x ∷ xs) = if chosen k then x ∷ picked chosen (k + 1) xs else picked chosen (k + 1) xs
+-- of a list, what stands at the places that are chosen, in order
+abbrev pub picked : {A : Type 0} → (ℕ → Bool) → List A → List A
+picked chosen [] = []
+picked chosen (x ∷ xs) = if chosen 0 then x ∷ picked (λ i. chosen (suc i)) xs else picked (λ i. chosen (suc i)) xs
 
--- how many of n numbers from k on are chosen
-abbrev pub count_of : (ℕ → Bool) → ℕ → ℕ → ℕ
-count_of chosen k zero = 0
-count_of chosen k (suc n) = if chosen k then suc (count_of chosen (k + 1) n) else count_of chosen (k + 1) n
+-- how many of the first n places are chosen
+abbrev pub count_of : (ℕ → Bool) → ℕ → ℕ
+count_of chosen zero = 0
+count_of chosen (suc n) = if chosen 0 then suc (count_of (λ i. chosen (suc i)) n) else count_of (λ i. chosen (suc i)) n
 
--- a number is in the mask, or it isn't
-abbrev pub is_in : Mask4 → ℕ → Bool
-is_in mask k = is_set mask k
+-- the thread at a place is chosen, or it isn't
+abbrev pub is_in : (ℕ → Bool) → ℕ → Bool
+is_in chosen i = chosen (suc i)
 
-abbrev pub is_out : Mask4 → ℕ → Bool
-is_out mask k = not (is_set mask k)
+abbrev pub is_out : (ℕ → Bool) → ℕ → Bool
+is_out chosen i = not (chosen (suc i))
 
--- Of the workers of the threads from thread 1 on, the hands are those whose numbers are in the mask, and the others are lent, both in order.
-abbrev pub AreDealt : Mask4 → List Worker → List Hand → List Worker → Type 0
-AreDealt mask workers hands lent = (hands ≡ map Thread (picked (is_in mask) 1 workers)) × (lent ≡ picked (is_out mask) 1 workers)
+-- Of the workers of the threads, the hands are those of the threads that are chosen, and the others are lent, both in order.
+abbrev pub AreDealt : (ℕ → Bool) → List Worker → List Worker → List Worker → Type 0
+AreDealt chosen workers hands lent = (hands ≡ picked (is_in chosen) workers) × (lent ≡ picked (is_out chosen) workers)
 
--- the hands are threads, and there are just as many of both as of so many threads
-abbrev pub AreSized : Mask4 → ℕ → List Hand → List Worker → Type 0
-AreSized mask threads hands lent =
-    (own : List Worker) × (hands ≡ map Thread own) × (length own ≡ count_of (is_in mask) 1 threads) × (length lent ≡ count_of (is_out mask) 1 threads)
+-- the worker was put behind the hands, or behind those that are lent
+abbrev pub IsPut : Bool → Worker → (hands lent hands' lent' : List Worker) → Type 0
+IsPut awake w hands lent hands' lent' = (hands' ≡ (if awake then hands ++ w ∷ [] else hands)) × (lent' ≡ (if not awake then lent ++ w ∷ [] else lent))
+
+-- there are just as many of both as of so many threads
+abbrev pub AreSized : (ℕ → Bool) → ℕ → List Worker → List Worker → Type 0
+AreSized chosen threads hands lent = (length hands ≡ count_of (is_in chosen) threads) × (length lent ≡ count_of (is_out chosen) threads)

@@ -108,12 +108,13 @@ pub record IsDeskAt (h : BenchHome) (desk : BenchDesk) (p : Progress) : Type 0 w
   pub over : StandsOver (row_on desk.place.bench) p.list
 
 -- The worker's thread was stopped at the desk of this bench, where it was idle for n epochs. The records of its flush came to its own, and that it was stopped, if it was, to `out`.
-pub record StopsLent (h : BenchHome) (f : Profile) (k n : ℕ) (bench bench' : Bench) (old new : Worker) (out out' : Records) (later : Later) (p : Progress) : Type 0 where
+pub record StopsLent (h : BenchHome) (f : Profile) (k n : ℕ) (bench' : Bench) (old new : Worker) (out out' : Records) (later : Later)
+    (p : Progress) : Type 0 where
   pub stopped : Bool
-  pub before : Member
-  pub after : Member
-  pub does : ThreadActs f k (StopsIdle k n ∷ []) [] (told_if stopped k) (here (standing_on bench before) (cached old.cache) old.out)
-      (here (standing_on bench' after) (cached new.cache) new.out) later p
+  pub sat : BenchDesk
+  pub risen : BenchDesk
+  pub does : ThreadActs f k (StopsIdle k n ∷ []) [] (told_if stopped k) (here (standing_at sat) (cached old.cache) old.out)
+      (here (standing_at risen) (cached new.cache) new.out) later p
   pub sits : WorkerSits h.region h.row.actors f k new later does.reached
   pub over : StandsOver (row_on bench') does.reached.list
   pub requests : new.requests ≡ old.requests

@@ -6,7 +6,6 @@ pub mod Still
 pub mod Lent
 pub mod Crews
 pub mod Scavengers
-pub mod Acting
 pub mod Dealing
 pub mod Sessions
 pub mod Turns

@@ -1,6 +1,6 @@
 -- A worker with two actors: a thread, and in a guarded replay its keeper, which is the actor that stands as far behind all threads as the thread stands among
 -- them.
-use Rattle.std.specs.Prelude.{ℕ, zero, suc, map, ◌+◌, ◌<◌, ◌≤◌, ◌≡◌, ◌⊎◌, List, [], length, Option, None, Some, get_or}
+use Rattle.std.specs.Prelude.{ℕ, map, ◌+◌, ◌<◌, ◌≤◌, ◌≡◌, List, [], length, Option, None, Some, get_or, Bool, if◌then◌else◌, is_some}
 use Rattle.pas_profile.specs.declared.profile.Profile.{Profile}
 use Rattle.pas_steps.specs.Lists.{part}
 use Rattle.pas_guard.specs.Books.{guards_in}
@@ -61,6 +61,10 @@ pub record DidPhase (region : SharedRegion) (book : NameBook) (ops : List Op) (o
       → PairStands region book f threads k (own_acts k ops) old later more p
       → PairDid region book f threads k (own_acts k ops) old new later more p
 
+-- .. of each of these workers
+abbrev pub DidPhases : SharedRegion → NameBook → List Op → List Worker → List Worker → Type 0
+DidPhases region book ops old new = (i : ℕ) (d : Worker) → i < length old → DidPhase region book ops (get_or old i d) (get_or new i d)
+
 -- the operations of this worker's thread in the phase can be done
 pub record MayDoPhase (region : SharedRegion) (book : NameBook) (ops : List Op) (worker : Worker) : Type 0 where
   pub profile : Profile
@@ -98,20 +102,18 @@ abbrev pub owed_kept : Profile → ℕ → Option Keeper → Progress → ℕ
 owed_kept f actor None p = 0
 owed_kept f actor (Some keeper) p = owed_by_keeper f (guards_in keeper.book) (part actor p.list)
 
--- .. and what those of the first n threads' workers owe, which stand behind so many threads
+-- the keeper of the worker at this place
 abbrev pub keeper_at : List Worker → ℕ → Option Keeper
 keeper_at workers i = get_or (map (λ (worker : Worker). worker.keeper) workers) i None
-
-abbrev pub owed_by_keepers : Profile → ℕ → List Worker → Progress → ℕ → ℕ
-owed_by_keepers f threads workers p zero = 0
-owed_by_keepers f threads workers p (suc n) = owed_kept f (threads + suc n) (keeper_at workers n) p + owed_by_keepers f threads workers p n
 
 -- each of these workers has a keeper, or none has
 abbrev pub HasKeeper : Worker → Type 0
 HasKeeper worker = (keeper : Keeper) × (worker.keeper ≡ Some keeper)
 
 abbrev pub AreGuarded : ℕ → List Worker → Type 0
-AreGuarded keepers workers = ((keepers ≡ length workers) × ((i : ℕ) (d : Worker) → i < length workers → HasKeeper (get_or workers i d))) ⊎ ((keepers ≡ 0) × ((i : ℕ) (d : Worker) → i < length workers → (get_or workers i d).keeper ≡ None))
+AreGuarded keepers workers =
+    (guarded : Bool) × (keepers ≡ (if guarded then length workers else 0))
+    × ((i : ℕ) (d : Worker) → i < length workers → is_some (get_or workers i d).keeper ≡ guarded)
 
 -- ---- the close
 -- no guard is up

@@ -73,7 +73,7 @@ pub record ThreadDone (region : SharedRegion) (r : Round) (k : ℕ) (old new : W
   pub paid : PaysFor r k old new said q
   pub noted : names_of (requests_in new.requests) ≡ names_of (requests_in old.requests) ++ names_asked (own_acts k r.ops)
   pub room_noted : room_for new.requests ≡ room_for old.requests
-  pub hands_over : requests_in old.requests ≡ [] → (names : List Named) → AreAmong q.names names → HandsOver r.profile r.ops r.book k new names
+  pub hands_over : requests_in old.requests ≡ [] → (names : List Named) → AreAmong q.names names → HandsOver r.profile r.ops r.book k new.requests names
 
 -- The scavenger's acts were done, and it has its pass again. Nobody past the threads took part in them.
 abbrev pub ScavengerDone : SharedRegion → Round → Scavenger → Scavenger → List Record → Progress → Type 0

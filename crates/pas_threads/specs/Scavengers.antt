@@ -1,5 +1,5 @@
 -- What the scavenger's worker has in hand while it doesn't sit at the region, before and after its acts of a phase.
-use Rattle.std.specs.Prelude.{ℕ, ◌≡◌, List, [], Some, vec_capacity}
+use Rattle.std.specs.Prelude.{ℕ, ◌≡◌, List, [], Some, length, vec_capacity}
 use Rattle.pas_steps.specs.Desks.{Standing}
 use Rattle.pas_trace.specs.{EveryPlan.AreSound, Acts.{Act, scavenger_acts}, declared.plan.Op.Op}
 use Rattle.pas_utility.specs.Outcomes.{places_of}
@@ -40,4 +40,5 @@ pub record ScavengerDid (region : SharedRegion) (s : Shift) (acts : List Act) (o
 pub record DidScavenge (region : SharedRegion) (ops : List Op) (old new : Scavenger) : Type 0 where
   pub did : (s : Shift) (asked : List ℕ) (p : Progress) → AreSound s.profile asked ops → ScavengerStands region s (scavenger_acts s.idle ops) old p
       → ScavengerDid region s (scavenger_acts s.idle ops) old new p
+  pub many : length new.lent.items ≡ length old.lent.items
   pub places : vec_capacity new.lent ≡ vec_capacity old.lent

@@ -78,3 +78,10 @@ IsAnother k (Some seated) = seated.member.actor ≢ k
 abbrev pub KeeperSits : SharedRegion → Bench → Option Seated → Type 0
 KeeperSits region bench None = Unit {0}
 KeeperSits region bench (Some seated) = MaySitOn region bench seated.member
+
+-- .. in one row, with nobody else
+pub record PairMayRise (region : SharedRegion) (bench : Bench) (member : Member) (seated : Option Seated) : Type 0 where
+  pub thread : MaySitOn region bench member
+  pub keeper : KeeperSits region bench seated
+  pub apart : IsAnother member.actor seated
+  pub actors : (row_on bench).actors ≡ member.actor ∷ seated_actors seated

@@ -11,7 +11,7 @@ use Rattle.pas_shared.specs.{Ruled.IsEarlier, declared.region.SharedRegion.Share
 use Rattle.pas_answers.specs.{Replays.at_start, Answers.Progress, Calls.owed_events, Reaching.Reaches, Phases.AreInPhases, Stages.{Stage, one_by_one}}
 use Rattle.pas_answers.specs.{Stages.{phase_stages, stages_of, GoByStages}, Ways.{OnThreads, arranged, by_actors, AreSpoken}}
 use Rattle.pas_acts.specs.{Shares.AreKeptBehind, Works.Later, Turns.RestsAt, NameBooks.{NamesAt, requests_in, room_for}}
-use Rattle.pas_threads.specs.{Hands.{standing_of_pass, HasPass, ScavengerAt}, Pairs.{KeeperRests, AreGuarded, owed_by_keepers, IsLow}}
+use Rattle.pas_threads.specs.{Hands.{standing_of_pass, HasPass, ScavengerAt}, Pairs.{KeeperRests, AreGuarded, owed_kept, keeper_at, IsLow}}
 use Rattle.pas_threads.specs.declared.{workers.Worker.Worker, scavenger.Scavenger.Scavenger, phases.Team.Team}
 
 -- what a replay on threads goes by: the profile of its region, how many threads make the operations, and how many keepers stand behind them
@@ -101,16 +101,17 @@ pub record AreWritten (s : Session) (records written : List Record) : Type 0 whe
   pub records_are : records ≡ before ++ said
   pub written_are : written ≡ before_written ++ by_actors 0 (s.profile.threads + 1) said
 
--- the events that the first n threads owe
-abbrev pub owed_by : Profile → Progress → ℕ → ℕ
-owed_by f p zero = 0
-owed_by f p (suc n) = owed_events f (p.caches (suc n)) (part (suc n) p.list) + owed_by f p n
+-- the events that the first n threads owe, and their keepers, which these workers have
+abbrev pub owed_by : Session → List Worker → Progress → ℕ → ℕ
+owed_by s workers p zero = 0
+owed_by s workers p (suc n) =
+    owed_events s.profile (p.caches (suc n)) (part (suc n) p.list) + owed_kept s.profile (s.threads + suc n) (keeper_at workers n) p + owed_by s workers p n
 
 -- There is room for the records that the operations of the phases that are left may make, for those of `marks` marks, and for what the threads and their
 -- keepers owe.
 abbrev pub HasRoom : Session → List (List Op) → ℕ → List Worker → Records → Progress → Type 0
 HasRoom s phases marks workers out p =
-    length (records_in out) + (owed_by s.profile p s.threads + owed_by_keepers s.profile s.threads workers p s.threads + records_of_ops (planned s) (all_ops phases) + marks) ≤ room_of out
+    length (records_in out) + (owed_by s workers p s.threads + records_of_ops (planned s) (all_ops phases) + marks) ≤ room_of out
 
 -- ---- one phase
 -- The operations of a phase come next, and then those of the phases after it. The records so far end with a mark and are written.

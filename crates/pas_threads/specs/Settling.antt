@@ -1,10 +1,11 @@
 -- What stands in a ledger once it was settled, and what it heard of.
-use Rattle.std.specs.Prelude.{ℕ, suc, ◌+◌, ◌<◌, ◌≡◌, List, length, get_or, Option, Some}
+use Rattle.std.specs.Prelude.{ℕ, suc, ◌+◌, ◌<◌, ◌≡◌, List, length, get_or, Option, None, Some}
 use Rattle.pas_steps.specs.Lists.{Whole, part}
 use Rattle.pas_shared.specs.{Ruled.{AreEarlier, IsEarlier, HasAllOf, bases_in}, Passes.{seat_of, view_of, IsPassOf}, Benches.{rows_on, IsBenchOf}}
 use Rattle.pas_shared.specs.{Ledgers.{so_far, looks_of, actors_in}, declared.{bench.Bench.Bench, ledger.Ledger.Ledger, pass.SharedPass.SharedPass}}
 use Rattle.pas_shared.specs.declared.region.SharedRegion.{SharedRegion}
-use Rattle.pas_threads.specs.{Pairs.AreGuarded, Sessions.{Session, IsOfActors}, declared.{keeper.Keeper.Keeper, workers.Worker.Worker}}
+use Rattle.pas_threads.specs.{Hands.HasPass, Pairs.{AreGuarded, IsKeeperOf}, Sessions.{Session, IsOfActors}, declared.keeper.Keeper.Keeper}
+use Rattle.pas_threads.specs.declared.workers.Worker.{Worker}
 
 -- ---- settling
 -- It is the ledger of the same region, with the same actors, and what it saw are the first steps of those that stand there now. Those of its actors are all there.
@@ -18,6 +19,19 @@ pub record Settled (old new : Ledger) : Type 0 where
 -- the list has of the actor of the pass just its own steps
 abbrev pub StandsIn : Whole → SharedPass → Type 0
 StandsIn l pass = part (seat_of pass).actor l ≡ view_of pass
+
+-- .. of the keeper, if it is there
+abbrev pub KeeperStandsIn : Whole → Option Keeper → Type 0
+KeeperStandsIn l None = Unit {0}
+KeeperStandsIn l (Some keeper) = StandsIn l keeper.pass
+
+-- .. of both actors of the worker
+abbrev pub WorkerStandsIn : Whole → Worker → Type 0
+WorkerStandsIn l worker = ((pass : SharedPass) → worker.pass ≡ Some pass → StandsIn l pass) × KeeperStandsIn l worker.keeper
+
+-- both have their passes, which are of the region
+abbrev pub IsUp : SharedRegion → Worker → Type 0
+IsUp region worker = HasPass region worker.pass × IsKeeperOf region worker.keeper
 
 -- ---- all actors at rest
 -- actor k has its pass, and what it made is its part of the list

@@ -3,7 +3,7 @@ use Rattle.std.specs.Prelude.{ℕ, ◌<◌, ◌≡◌, ◌⊎◌, true, List, []
 use Rattle.pas_profile.specs.declared.{name.Block.Block, profile.Profile.Profile}
 use Rattle.pas_trace.specs.{EveryPlan.is_asked, Acts.own_acts, declared.plan.Op.Op}
 use Rattle.pas_answers.specs.{Answers.{Named, standing_for}, Calls.MayStand, Names.block_named}
-use Rattle.pas_acts.specs.{NameBooks.{requests_in, room_for, names_of, names_asked, AreWithin, known_in}, declared.names.NameBook.NameBook}
+use Rattle.pas_acts.specs.{NameBooks.{Requests, requests_in, room_for, names_of, names_asked, AreWithin, known_in}, declared.names.NameBook.NameBook}
 use Rattle.pas_threads.specs.declared.workers.Worker.{Worker}
 
 -- the names of the worker's requests are below the limit
@@ -30,8 +30,8 @@ pub record IsEmptied (old new : Worker) : Type 0 where
   pub empty : requests_in new.requests ≡ []
   pub room : room_for new.requests ≡ room_for old.requests
 
--- The worker of thread k made all requests of its operations in the phase, and what each came to is what its name stands for.
-pub record HandsOver (f : Profile) (phase : List Op) (book : NameBook) (k : ℕ) (worker : Worker) (names : List Named) : Type 0 where
-  pub noted : names_of (requests_in worker.requests) ≡ names_asked (own_acts k phase)
-  pub says : (n : ℕ) → HasRequest worker n
-      → (block : Option Block) × (standing_for names n ≡ Some block) × (known_in book worker.requests n ≡ block) × MayStand f block
+-- The worker of thread k made these requests, all those of its operations in the phase, and what each came to is what its name stands for.
+pub record HandsOver (f : Profile) (phase : List Op) (book : NameBook) (k : ℕ) (requests : Requests) (names : List Named) : Type 0 where
+  pub noted : names_of (requests_in requests) ≡ names_asked (own_acts k phase)
+  pub says : (n : ℕ) → is_asked (names_of (requests_in requests)) n ≡ true
+      → (block : Option Block) × (standing_for names n ≡ Some block) × (known_in book requests n ≡ block) × MayStand f block

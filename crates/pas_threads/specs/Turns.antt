@@ -133,3 +133,10 @@ pub record IsGathered (old new : Worker) : Type 0 where
   pub none : records_in new.out ≡ []
   pub room : room_of new.out ≡ room_of old.out
   pub keeper : HasSaid old.keeper new.keeper
+
+-- All that these workers said came to the end of the records, for their threads and then for their keepers.
+pub record WereGathered (old new : List Worker) (out out' : Records) : Type 0 where
+  pub added : records_in out' ≡ records_in out ++ (said_by_all old ++ said_by_keepers old)
+  pub size : room_of out' ≡ room_of out
+  pub each : (i : ℕ) (d : Worker) → i < length old → IsGathered (get_or old i d) (get_or new i d)
+  pub many : length new ≡ length old

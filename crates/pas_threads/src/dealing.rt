@@ -1,23 +1,36 @@
-//! The workers of a phase are dealt into the hands that act in it, and taken back.
-ghost use Rattle.std.specs.Prelude.{◌≡◌, ◌<◌, ◌≤◌, ◌++◌, [], ◌∷◌, true, false, List, length, vec_capacity};
-ghost use Rattle.pas_threads.specs.{Dealing.{AreDealt, AreSized}, declared.{workers.Worker.Worker as TheWorker, hands.Hand.Hand as AnyHand}};
-ghost use Rattle.pas_threads.specs.declared.hands.Hand.TheVariants as TheHand;
+//! The workers of a phase are dealt into the hands that act in it and those that are lent, and taken back.
+ghost use Rattle.std.specs.Prelude.{◌≡◌, ◌<◌, ◌≤◌, ◌++◌, [], ◌∷◌, true, false, length, vec_capacity};
+ghost use Rattle.pas_bits.specs.Masks.{is_set};
+ghost use Rattle.pas_threads.specs.Dealing.{IsPut, AreDealt, AreSized};
 
-use crate::hands::Hand;
 use crate::workers::Worker;
 use pas_bits::Mask4;
+
+/// The worker goes behind the hands where its thread is awake, and behind those that are lent otherwise.
+fn put(worker: Worker, awake: bool, hands: &mut Vec<Worker>, lent: &mut Vec<Worker>)
+    requires hands { length hands.old.items < vec_capacity hands.old }
+    requires lent { length lent.old.items < vec_capacity lent.old }
+    ensures put { IsPut awake worker hands.old.items lent.old.items hands.new.items lent.new.items }
+    ensures places { (vec_capacity hands.new ≡ vec_capacity hands.old) × (vec_capacity lent.new ≡ vec_capacity lent.old) }
+{
+    if awake {
+        hands.push_reserved(worker);
+    } else {
+        lent.push_reserved(worker);
+    }
+}
 
 /// Deals the workers of the threads, from thread 1 on: those of the mask become hands of the phase, and the others are lent to the scavenger.
 pub(crate) fn deal(
     threads: &mut Vec<Worker>,
     awake: Mask4,
-    hands: &mut Vec<Hand>,
+    hands: &mut Vec<Worker>,
     lent: &mut Vec<Worker>,
 )
     requires few { length threads.old.items < 32 }
     requires hands { (hands.old.items ≡ []) × (length threads.old.items ≤ vec_capacity hands.old) }
     requires lent { (lent.old.items ≡ []) × (length threads.old.items ≤ vec_capacity lent.old) }
-    ensures dealt { AreDealt awake threads.old.items hands.new.items lent.new.items }
+    ensures dealt { AreDealt (is_set awake) threads.old.items hands.new.items lent.new.items }
     ensures none { threads.new.items ≡ [] }
     ensures places { (vec_capacity threads.new ≡ vec_capacity threads.old) × (vec_capacity hands.new ≡ vec_capacity hands.old) × (vec_capacity lent.new ≡ vec_capacity lent.old) }
 {
@@ -25,64 +38,55 @@ pub(crate) fn deal(
     let mut actor = 0;
     while let Some(worker) = threads.pop() {
         actor += 1;
-        if awake.get(actor) {
-            hands.push_reserved(Hand::Thread(worker));
-        } else {
-            lent.push_reserved(worker);
-        }
+        put(worker, awake.get(actor), hands, lent);
     }
 }
 
-/// Takes the last of the hands out, which is a thread's.
-fn pop_thread(hands: &mut Vec<Hand>) -> Worker
-    requires { (front : List AnyHand) × (worker : TheWorker) × (hands.old.items ≡ front ++ TheHand.Thread worker ∷ []) }
-    ensures items { hands.old.items ≡ hands.new.items ++ TheHand.Thread result ∷ [] }
-    ensures place { vec_capacity hands.new ≡ vec_capacity hands.old }
+/// Takes the last worker out.
+fn pop_one(workers: &mut Vec<Worker>) -> Worker
+    requires { 0 < length workers.old.items }
+    ensures items { workers.old.items ≡ workers.new.items ++ result ∷ [] }
+    ensures place { vec_capacity workers.new ≡ vec_capacity workers.old }
 {
-    match hands.pop() {
-        Some(Hand::Thread(worker)) => worker,
-        Some(Hand::Scavenger(_scavenger)) => unreachable!(),
-        None => unreachable!(),
-    }
-}
-
-/// The worker of the next thread: the last of the hands where it was awake, and the last of those that were lent otherwise.
-fn next_back(awake: bool, hands: &mut Vec<Hand>, lent: &mut Vec<Worker>) -> Worker
-    requires awake { awake ≡ true → (front : List AnyHand) × (worker : TheWorker) × (hands.old.items ≡ front ++ TheHand.Thread worker ∷ []) }
-    requires idle { awake ≡ false → 0 < length lent.old.items }
-    ensures awake { awake ≡ true → (hands.old.items ≡ hands.new.items ++ TheHand.Thread result ∷ []) × (lent.new.items ≡ lent.old.items) }
-    ensures idle { awake ≡ false → (lent.old.items ≡ lent.new.items ++ result ∷ []) × (hands.new.items ≡ hands.old.items) }
-    ensures places { (vec_capacity hands.new ≡ vec_capacity hands.old) × (vec_capacity lent.new ≡ vec_capacity lent.old) }
-{
-    if awake {
-        return pop_thread(hands);
-    }
-    let Some(worker) = lent.pop() else {
+    let Some(worker) = workers.pop() else {
         unreachable!();
     };
     worker
 }
 
-/// Takes the workers of so many threads back, from thread 1 on: those of the mask from the hands, and the others from those that were lent.
+/// The worker that was put there last: of a thread that was awake or of one that wasn't.
+fn take_last(awake: bool, hands: &mut Vec<Worker>, lent: &mut Vec<Worker>) -> Worker
+    requires hands { awake ≡ true → 0 < length hands.old.items }
+    requires lent { awake ≡ false → 0 < length lent.old.items }
+    ensures taken { IsPut awake result hands.new.items lent.new.items hands.old.items lent.old.items }
+    ensures places { (vec_capacity hands.new ≡ vec_capacity hands.old) × (vec_capacity lent.new ≡ vec_capacity lent.old) }
+{
+    if awake {
+        return pop_one(hands);
+    }
+    pop_one(lent)
+}
+
+/// Takes the workers of so many threads back, the last one first: those of the mask from the hands, and the others from those that were lent.
 pub(crate) fn take_back(
     threads: &mut Vec<Worker>,
     count: u8,
     awake: Mask4,
-    hands: &mut Vec<Hand>,
+    hands: &mut Vec<Worker>,
     lent: &mut Vec<Worker>,
 )
-    requires few { count < 32 }
     requires none { (threads.old.items ≡ []) × (count ≤ vec_capacity threads.old) }
-    requires sized { AreSized awake count hands.old.items lent.old.items }
-    ensures dealt { AreDealt awake threads.new.items hands.old.items lent.old.items }
+    requires sized { AreSized (is_set awake) count hands.old.items lent.old.items }
+    ensures dealt { AreDealt (is_set awake) threads.new.items hands.old.items lent.old.items }
     ensures many { length threads.new.items ≡ count }
     ensures none { (hands.new.items ≡ []) × (lent.new.items ≡ []) }
     ensures places { (vec_capacity threads.new ≡ vec_capacity threads.old) × (vec_capacity hands.new ≡ vec_capacity hands.old) × (vec_capacity lent.new ≡ vec_capacity lent.old) }
 {
-    hands.reverse();
-    lent.reverse();
-    for below in 0..count {
-        let worker = next_back(awake.get(below + 1), hands, lent);
+    let mut left = count;
+    while left > 0 {
+        let worker = take_last(awake.get(left), hands, lent);
         threads.push_reserved(worker);
+        left -= 1;
     }
+    threads.reverse();
 }

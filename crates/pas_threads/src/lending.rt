@@ -76,7 +76,7 @@ fn stop_lent(
 )
     requires may { (h : BenchHome) × (f : TheProfile) × (k : ℕ) × (later : Later) × (p : Progress) × IsDeskAt h desk.old p × WorkerSits h.region h.row.actors f k worker.old later p × (desk.old.place.member.actor ≢ k) × (p.epoch ≡ epoch) }
     requires room { length (records_in out.old) < room_of out.old }
-    ensures stops { (h : BenchHome) (f : TheProfile) (k : ℕ) (later : Later) (p : Progress) → IsDeskAt h desk.old p → WorkerSits h.region h.row.actors f k worker.old later p → p.epoch ≡ epoch → StopsLent h f k epochs desk.old.place.bench desk.new.place.bench worker.old worker.new out.old out.new later p }
+    ensures stops { (h : BenchHome) (f : TheProfile) (k : ℕ) (later : Later) (p : Progress) → IsDeskAt h desk.old p → WorkerSits h.region h.row.actors f k worker.old later p → p.epoch ≡ epoch → StopsLent h f k epochs desk.new.place.bench worker.old worker.new out.old out.new later p }
     ensures home { home_at desk.new ≡ home_at desk.old }
     ensures member { desk.new.place.member ≡ desk.old.place.member }
 {

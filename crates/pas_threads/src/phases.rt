@@ -10,7 +10,7 @@ ghost use Rattle.pas_threads.specs.{Sessions.{TeamAt, HasRoom, HasReplayed}, Set
 ghost use Rattle.pas_shared.specs.Ledgers.{IsLedgerOf, so_far};
 
 use crate::dealing::{deal, take_back};
-use crate::hands::{Hand, act_with};
+use crate::hands::act_with;
 use crate::scavenger::Scavenger;
 use crate::settling::{hear_all, hear_if, settle};
 use crate::turns::{close_all, gather, wake_all};
@@ -38,7 +38,7 @@ pub(crate) struct Team {
     pub(crate) threads: Vec<Worker>,
     pub(crate) scavenger: Scavenger,
     /// Empty between two phases.
-    pub(crate) hands: Vec<Hand>,
+    pub(crate) hands: Vec<Worker>,
     pub(crate) book: NameBook,
 }
 
@@ -69,8 +69,17 @@ fn perform_all<R: Threads + Wait + Sync, G: Gate + Sync, M: Remake + Sync>(
     let count = threads.len() as u8;
     deal(&mut threads, awake, &mut hands, &mut scavenger.lent);
     let busy = awake.get(SCAVENGER);
-    let mut scavenger = act_with(
-        rt, region, indexes, &book, &mut hands, scavenger, busy, ops, gate, remaker,
+    act_with(
+        rt,
+        region,
+        indexes,
+        &book,
+        &mut hands,
+        &mut scavenger,
+        busy,
+        ops,
+        gate,
+        remaker,
     );
     take_back(&mut threads, count, awake, &mut hands, &mut scavenger.lent);
     Team {
@@ -103,7 +112,7 @@ fn perform_and_hear<R: Threads + Wait + Sync, G: Gate + Sync, M: Remake + Sync>(
         → IsHeard region.now ledger.new (round s team.book ops.now later more p) team result }
 {
     let mut team = perform_all(rt, region, indexes, team, awake, ops, gate, remaker);
-    hear_all(region, ledger, &mut team.threads, awake);
+    hear_all(region, ledger, &mut team.threads, 0, awake);
     let busy = awake.get(SCAVENGER);
     hear_if(region, ledger, &mut team.scavenger.bench, busy);
     team

@@ -7,11 +7,11 @@ ghost use Rattle.pas_answers.specs.Answers.{Progress};
 ghost use Rattle.pas_cache.specs.Caches.{cached};
 ghost use Rattle.pas_trace.specs.Acts.{Wakes, Ends};
 ghost use Rattle.pas_shared.specs.Ledgers.{IsLedgerOf, so_far};
-ghost use Rattle.pas_acts.specs.{Works.Later, Keepers.LaterKept, Pairs.KeeperWaits};
-ghost use Rattle.pas_threads.specs.{Sessions.{Session, StandSo, WorkerHas, WorkersRest, AreResting}, Settling.ActorsStand, Closing.{ClosedFirst, ClosesNext}};
-ghost use Rattle.pas_threads.specs.{Closing.ClosedSo, Pairs.{IsKeeperOf, kept_by_worker, no_more, AreGuarded, IsButKeeper, KeeperStands, KeeperLowered}};
-ghost use Rattle.pas_threads.specs.Turns.{Turn, WokeAll, said_by_all, said_kept, said_by_keepers, IsOwnGathered, IsKeptGathered, IsGathered};
-ghost use Rattle.pas_threads.specs.declared.{keeper.Keeper.Keeper as TheKeeper, workers.Worker.Worker as TheWorker};
+ghost use Rattle.pas_acts.specs.{Works.Later, Keepers.LaterKept};
+ghost use Rattle.pas_threads.specs.{Sessions.{Session, WorkerHas, AreResting}, Closing.{ClosedFirst, ClosesNext, MayClose, MayCloseAt, ClosedSo}};
+ghost use Rattle.pas_threads.specs.{Pairs.{no_more, AreGuarded, IsButKeeper, KeeperStands, KeeperLowered}, Turns.{Turn, WokeAll, said_by_all, said_kept}};
+ghost use Rattle.pas_threads.specs.{Turns.{said_by_keepers, IsOwnGathered, IsKeptGathered, WereGathered}, declared.keeper.Keeper.Keeper as TheKeeper};
+ghost use Rattle.pas_threads.specs.declared.workers.Worker.{Worker as TheWorker};
 
 use crate::keeper::lower;
 use crate::scavenger::Scavenger;
@@ -64,39 +64,47 @@ fn stop(region: &SharedRegion, worker: &mut Worker)
     worker.pass = Some(desk.into_pass());
 }
 
-/// The keeper of the worker lowers all its guards, if it has one. Whether it has.
-fn lower_one(region: &SharedRegion, worker: &mut Worker) -> bool
-    requires stands { (f : TheProfile) × (actor : ℕ) × (p : Progress) × IsKeeperOf region.now worker.old.keeper × KeeperWaits f actor [] (kept_by_worker worker.old.keeper) no_more p }
+/// The keeper of the worker, which has one, lowers all its guards.
+fn lower_one(region: &SharedRegion, worker: &mut Worker)
+    requires stands { (f : TheProfile) × (actor : ℕ) × (p : Progress) × (keeper : TheKeeper) × (worker.old.keeper ≡ Some keeper) × KeeperStands region.now f actor keeper no_more p }
     ensures but { IsButKeeper worker.old worker.new }
-    ensures none { result ≡ false → (worker.old.keeper ≡ None) × (worker.new ≡ worker.old) }
-    ensures has { result ≡ true → (keeper : TheKeeper) × (worker.old.keeper ≡ Some keeper) }
     ensures one { (keeper : TheKeeper) → worker.old.keeper ≡ Some keeper → (after : TheKeeper) × (worker.new.keeper ≡ Some after)
         × ((f : TheProfile) (actor : ℕ) (later : LaterKept) (p : Progress) → KeeperStands region.now f actor keeper later p → KeeperLowered region.now f actor keeper after later p) }
 {
-    match worker.keeper.take() {
-        Some(keeper) => {
-            worker.keeper = Some(lower(region, keeper));
-            true
-        }
-        None => false,
-    }
+    let Some(keeper) = worker.keeper.take() else {
+        unreachable!();
+    };
+    worker.keeper = Some(lower(region, keeper));
 }
 
-/// The actor at this place makes its act of the close: the thread there is stopped, or, behind all threads, the keeper there lowers its guards. Whether there is one.
-fn close_one(region: &SharedRegion, workers: &mut [Worker], place: usize) -> bool
+/// How many actors have an act at the close: all threads, and as many keepers, where they have some.
+fn closing_actors(threads: &[Worker]) -> usize
+    requires { length threads.now < 32 }
+    ensures { (keepers : ℕ) → AreGuarded keepers threads.now → result ≡ length threads.now + keepers }
+{
+    if threads.is_empty() {
+        return 0;
+    }
+    if threads[0].keeper.is_some() {
+        return threads.len() + threads.len();
+    }
+    threads.len()
+}
+
+/// The actor at this place makes its act of the close: the thread there is stopped, or, behind all threads, the keeper there lowers its guards.
+fn close_one(region: &SharedRegion, workers: &mut [Worker], place: usize)
     requires place { place < length workers.old + length workers.old }
-    requires so_far { (s : Session) × (old : List TheWorker) × (p : Progress) × (s.threads ≡ length workers.old) × (length workers.old ≡ length old) × ClosedFirst region.now s place old workers.old p }
-    ensures none { result ≡ false → (workers.new ≡ workers.old) × (length workers.old ≤ place) × ((d : TheWorker) → (get_or workers.old (place - length workers.old) d).keeper ≡ None) }
-    ensures next { result ≡ true → (s : Session) (old : List TheWorker) (p : Progress) → AreGuarded s.keepers old → s.threads ≡ length old → length workers.old ≡ length old
-        → (so : ClosedFirst region.now s place old workers.old p) → ClosesNext region.now s place old workers.old workers.new p so }
+    requires so_far { (s : Session) × (old : List TheWorker) × (p : Progress) × MayCloseAt s place old workers.old × ClosedFirst region.now s place old workers.old p }
+    ensures next { (s : Session) (old : List TheWorker) (p : Progress) → MayCloseAt s place old workers.old → (so : ClosedFirst region.now s place old workers.old p)
+        → ClosesNext region.now s place old workers.old workers.new p so }
     ensures many { length workers.new ≡ length workers.old }
 {
     if place < workers.len() {
         stop(region, &mut workers[place]);
-        return true;
+        return;
     }
     let behind = place - workers.len();
-    lower_one(region, &mut workers[behind])
+    lower_one(region, &mut workers[behind]);
 }
 
 /// Each thread is stopped, in order, then the keeper of each lowers all its guards, and the ledger is settled after each. There are no keepers in a replay that isn't guarded.
@@ -108,28 +116,18 @@ pub(crate) fn close_all(
 )
     requires few { length threads.old < 32 }
     requires of { IsLedgerOf region.now ledger.old }
-    requires rest { (s : Session) × (p : Progress) × WorkersRest region.now s [] threads.old p × ActorsStand region.now s scavenger.old.pass threads.old p.list × StandSo s (so_far ledger.old) p.list }
+    requires may { (s : Session) × (p : Progress) × MayClose region.now s scavenger.old.pass threads.old (so_far ledger.old) p }
     ensures of { IsLedgerOf region.now ledger.new }
     ensures scavenger { scavenger.new ≡ scavenger.old }
-    ensures closed { (s : Session) (p : Progress) → WorkersRest region.now s [] threads.old p → ActorsStand region.now s scavenger.old.pass threads.old p.list → StandSo s (so_far ledger.old) p.list
-        → ClosedSo region.now s (length threads.old + length threads.old) threads.old threads.new (so_far ledger.old) (so_far ledger.new) p }
+    ensures closed { (s : Session) (p : Progress) → MayClose region.now s scavenger.old.pass threads.old (so_far ledger.old) p
+        → ClosedSo region.now s (s.threads + s.keepers) threads.old threads.new (so_far ledger.old) (so_far ledger.new) p }
     ensures many { length threads.new ≡ length threads.old }
 {
-    for place in 0..threads.len() + threads.len() {
-        if close_one(region, threads, place) {
-            settle(region, ledger, scavenger, threads);
-        }
+    let actors = closing_actors(threads);
+    for place in 0..actors {
+        close_one(region, threads, place);
+        settle(region, ledger, scavenger, threads);
     }
-}
-
-/// What the worker said for its thread comes to the end of `out`.
-fn gather_one(worker: &mut Worker, out: &mut Records)
-    requires room { length (records_in out.old) + length (records_in worker.old.out) ≤ room_of out.old }
-    ensures added { records_in out.new ≡ records_in out.old ++ records_in worker.old.out }
-    ensures room { room_of out.new ≡ room_of out.old }
-    ensures gathered { IsOwnGathered worker.old worker.new }
-{
-    out.append(&mut worker.out);
 }
 
 /// What the workers said for their threads comes to the end of `out`, one worker after the other.
@@ -137,12 +135,15 @@ fn gather_own(threads: &mut [Worker], out: &mut Records)
     requires room { length (records_in out.old) + length (said_by_all threads.old) ≤ room_of out.old }
     ensures added { records_in out.new ≡ records_in out.old ++ said_by_all threads.old }
     ensures room { room_of out.new ≡ room_of out.old }
+    ensures kept { said_by_keepers threads.new ≡ said_by_keepers threads.old }
     ensures gathered { (i : ℕ) (d : TheWorker) → i < length threads.old → IsOwnGathered (get_or threads.old i d) (get_or threads.new i d) }
     ensures many { length threads.new ≡ length threads.old }
 {
-    for place in 0..threads.len() {
-        gather_one(&mut threads[place], out);
-    }
+    let Some((worker, others)) = threads.split_first_mut() else {
+        return;
+    };
+    out.append(&mut worker.out);
+    gather_own(others, out);
 }
 
 /// What the keeper of the worker said comes to the end of `out`, if it has one.
@@ -166,18 +167,17 @@ fn gather_kept(threads: &mut [Worker], out: &mut Records)
     ensures gathered { (i : ℕ) (d : TheWorker) → i < length threads.old → IsKeptGathered (get_or threads.old i d) (get_or threads.new i d) }
     ensures many { length threads.new ≡ length threads.old }
 {
-    for place in 0..threads.len() {
-        gather_kept_one(&mut threads[place], out);
-    }
+    let Some((worker, others)) = threads.split_first_mut() else {
+        return;
+    };
+    gather_kept_one(worker, out);
+    gather_kept(others, out);
 }
 
 /// All that the workers said comes to the end of `out`: for their threads, one worker after the other, and then for their keepers.
 pub(crate) fn gather(threads: &mut [Worker], out: &mut Records)
-    requires room { length (records_in out.old) + (length (said_by_all threads.old) + length (said_by_keepers threads.old)) ≤ room_of out.old }
-    ensures added { records_in out.new ≡ records_in out.old ++ (said_by_all threads.old ++ said_by_keepers threads.old) }
-    ensures room { room_of out.new ≡ room_of out.old }
-    ensures gathered { (i : ℕ) (d : TheWorker) → i < length threads.old → IsGathered (get_or threads.old i d) (get_or threads.new i d) }
-    ensures many { length threads.new ≡ length threads.old }
+    requires { length (records_in out.old) + (length (said_by_all threads.old) + length (said_by_keepers threads.old)) ≤ room_of out.old }
+    ensures { WereGathered threads.old threads.new out.old out.new }
 {
     gather_own(threads, out);
     gather_kept(threads, out);

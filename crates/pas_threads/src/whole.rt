@@ -1,9 +1,9 @@
 //! The replay of a whole plan on threads, with the kit that was made for it.
 ghost use Rattle.std.specs.Prelude.{◌≡◌, ◌≤◌, ◌<◌, ◌+◌, ℕ, List, Some, All, [], map, length, vec_capacity, ◌++◌, ◌∷◌};
 ghost use Rattle.pas_trace.specs.Plans.{IsPlanOf};
-ghost use Rattle.pas_answers.specs.{Replays.{phases_of, Shows}, Ways.OnThreads};
-ghost use Rattle.pas_shared.specs.declared.pass.SharedPass.{SharedPass as ThePass};
-ghost use Rattle.pas_threads.specs.Kits.{IsKitOf, IsBack, kept_pass, passes_in, slots_of};
+ghost use Rattle.pas_answers.specs.{Replays.{phases_of, Shows}, Ways.OnThreads, Answers.Progress};
+ghost use Rattle.pas_shared.specs.declared.{pass.SharedPass.SharedPass as ThePass, region.SharedRegion.SharedRegion as TheRegion};
+ghost use Rattle.pas_threads.specs.{Sessions.{Session, TeamAt}, Kits.{IsKitOf, IsBack, kept_pass, passes_in, slots_of}};
 ghost use Rattle.pas_records.specs.Rooms.{records_in, room_of};
 
 use crate::kit::SharedKit;
@@ -42,6 +42,7 @@ fn add_pass(passes: &mut Vec<SharedPass>, slot: Option<SharedPass>)
 fn add_kept_pass(passes: &mut Vec<SharedPass>, worker: &mut Worker)
     requires places { length passes.old.items + length (kept_pass worker.old.keeper) ≤ vec_capacity passes.old }
     ensures added { map Some passes.new.items ≡ map Some passes.old.items ++ kept_pass worker.old.keeper }
+    ensures many { length passes.new.items ≡ length passes.old.items + length (kept_pass worker.old.keeper) }
     ensures places { vec_capacity passes.new ≡ vec_capacity passes.old }
 {
     if let Some(keeper) = worker.keeper.take() {
@@ -54,6 +55,7 @@ fn add_passes_of(passes: &mut Vec<SharedPass>, worker: &mut Worker)
     requires back { IsBack worker.old }
     requires places { length passes.old.items + (1 + length (kept_pass worker.old.keeper)) ≤ vec_capacity passes.old }
     ensures added { map Some passes.new.items ≡ map Some passes.old.items ++ worker.old.pass ∷ kept_pass worker.old.keeper }
+    ensures many { length passes.new.items ≡ length passes.old.items + (1 + length (kept_pass worker.old.keeper)) }
     ensures places { vec_capacity passes.new ≡ vec_capacity passes.old }
 {
     add_pass(passes, worker.pass.take());
@@ -66,17 +68,17 @@ fn add_passes(passes: &mut Vec<SharedPass>, workers: &mut [Worker])
     requires places { length passes.old.items + length (passes_in workers.old) ≤ vec_capacity passes.old }
     ensures added { map Some passes.new.items ≡ map Some passes.old.items ++ passes_in workers.old }
 {
-    for place in 0..workers.len() {
-        add_passes_of(passes, &mut workers[place]);
-    }
+    let Some((worker, others)) = workers.split_first_mut() else {
+        return;
+    };
+    add_passes_of(passes, worker);
+    add_passes(passes, others);
 }
 
 /// Takes the passes of all actors out, from the scavenger on, to the places of this list.
 fn passes_of(team: &mut Team, mut passes: Vec<SharedPass>) -> Vec<SharedPass>
     requires none { passes.items ≡ [] }
-    requires places { length (slots_of team.old) ≤ vec_capacity passes }
-    requires first { (pass : ThePass) × (team.old.scavenger.pass ≡ Some pass) }
-    requires back { All IsBack team.old.threads.items }
+    requires stands { (region : TheRegion) × (s : Session) × (end : Progress) × TeamAt region s [] team.old end × (s.threads + s.keepers < vec_capacity passes) }
     ensures { map Some result.items ≡ slots_of team.old }
 {
     add_pass(&mut passes, team.scavenger.pass.take());

@@ -1,9 +1,8 @@
 //! The workers of the threads at a shared region.
-ghost use Rattle.std.specs.Prelude.{◌≡◌, ◌<◌, ◌^◌, ◌∷◌, ℕ, All, length, get_or};
+ghost use Rattle.std.specs.Prelude.{◌≡◌, ◌<◌, ◌^◌, ℕ, All, length, get_or};
 ghost use Rattle.pas_answers.specs.Names.{names_held};
-ghost use Rattle.pas_shared.specs.{Passes.IsPassOf, Benches.{row_on, MaySitOn}};
-ghost use Rattle.pas_threads.specs.{Seats.{seated_actors, IsAnother, KeeperSits, PairSits, PairRose}, Pairs.{IsKeeperOf, MayDoPhase, DidPhase}, Taken.HasTaken};
-ghost use Rattle.pas_threads.specs.Taken.{IsWithin, IsEmptied};
+ghost use Rattle.pas_shared.specs.Passes.{IsPassOf};
+ghost use Rattle.pas_threads.specs.{Seats.{PairSits, PairMayRise, PairRose}, Pairs.{IsKeeperOf, MayDoPhase, DidPhase}, Taken.{HasTaken, IsWithin, IsEmptied}};
 
 use crate::keeper::{Beside, Keeper, Seated, let_keeper_leave, seat_keeper};
 use pas_acts::gate::Gate;
@@ -59,10 +58,7 @@ fn sit_down(region: &SharedRegion, pass: SharedPass, keeper: Option<Keeper>) -> 
 
 /// Both rise, once the bench has looked; it is left. Three loads, and two without a keeper.
 fn rise(region: &SharedRegion, pair: Pair) -> (Bench, SharedPass, Option<Keeper>)
-    requires thread { MaySitOn region.now pair.bench pair.member }
-    requires keeper { KeeperSits region.now pair.bench pair.keeper }
-    requires apart { IsAnother pair.member.actor pair.keeper }
-    requires actors { (row_on pair.bench).actors ≡ pair.member.actor ∷ seated_actors pair.keeper }
+    requires may { PairMayRise region.now pair.bench pair.member pair.keeper }
     ensures rose { PairRose region.now pair.bench pair.member pair.keeper result.0 result.1 result.2 }
 {
     let Pair {

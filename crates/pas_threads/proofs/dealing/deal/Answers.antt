@@ -1,68 +1,42 @@
-use Rattle.std.proofs.Common.{◌≡◌, ◌∙◌, ◌+◌, ◌++◌, [], ◌∷◌, ap, sym, refl, arith, map, reverse, length, length-append, drop_of_length-le}
-use Rattle.std.proofs.lemmas.{Bool.{not_from_true, not_from_false}, List.{map_push, reverse-reverse}}
-use Rattle.pas_threads.{specs.{Dealing.{picked, is_in, is_out}, declared.hands.Hand.TheVariants.Thread}, proofs.Dealt.{pile_grows, pile_stays, pile_whole}}
-use Rattle.pas_threads.proofs.Dealt.{last_left}
+use Rattle.std.proofs.{Common.{◌≡◌, ◌∙◌, ◌+◌, [], suc, ap, sym, refl, arith, reverse, length, drop_of_length-le}, lemmas.List.reverse-reverse}
+use Rattle.pas_bits.specs.Masks.{is_set}
+use Rattle.pas_threads.{specs.Dealing.is_in, proofs.Dealt.{piles_begin, piles_go_on, piles_end, put_few}}
 use Rattle.pas_threads.proofs.dealing.deal.Goals as goal
 
 pub loop-worker-init : goal.loop-worker-init
-loop-worker-init c =
-    let all = ap reverse c.reverse.ensures.items ∙ reverse-reverse c.args.threads.now.items in
-    record {
-      inside = ([], c.requires.hands.0, ap (picked (is_in c.args.awake) 1) all);
-      outside = simp (c.requires.lent.0, all);
-      count = omega (arith, c.reverse.ensures.len);
-      in_hands = omega (arith, ap length c.requires.hands.0);
-      in_lent = omega (arith, ap length c.requires.lent.0);
-      threads = c.reverse.ensures.capacity;
-      hands = refl;
-      lent = refl;
-    }
-
-pub loop-worker-preserved-then-get : goal.loop-worker-preserved-then-get
-loop-worker-preserved-then-get c =
-    let i = c.loop-worker.invariant in
-    let w = c.in-Some.worker in
-    let on = sym c.get.ensures ∙ c.if-get.true in
-    let last = last_left c.loop-worker.threads.items c.pop.new.self.items w c.in-Some.ensures.items in
-    record {
-      inside = (
-        i.inside.0 ++ w ∷ [],
-        c.push_reserved.ensures.items ∙ ap (λ hs. hs ++ Thread w ∷ []) i.inside.1 ∙ sym (map_push Thread i.inside.0 w),
-        pile_grows (is_in c.args.awake) (c.loop-worker.actor + 1) i.inside.0 (reverse c.loop-worker.threads.items) i.inside.2 w
-            (reverse c.pop.new.self.items) on last,
-      );
-      outside = pile_stays (is_out c.args.awake) (c.loop-worker.actor + 1) c.loop-worker.lent.items (reverse c.loop-worker.threads.items) i.outside w
-          (reverse c.pop.new.self.items) (not_from_true _ on) last;
-      count = omega (arith, i.count, c.in-Some.ensures.len);
-      in_hands = omega (arith, i.in_hands, ap length c.push_reserved.ensures.items ∙ length-append c.loop-worker.hands.items _);
-      in_lent = omega (arith, i.in_lent);
-      threads = c.pop.ensures.capacity ∙ i.threads;
-      hands = c.push_reserved.ensures.capacity ∙ i.hands;
-      lent = i.lent;
-    }
+loop-worker-init c = record {
+  piles = piles_begin (is_set c.args.awake) c.reverse.new.self.items c.requires.hands.0 c.requires.lent.0
+      (sym (ap reverse c.reverse.ensures.items ∙ reverse-reverse c.args.threads.now.items));
+  count = omega (arith, c.reverse.ensures.len);
+  in_hands = omega (arith, ap length c.requires.hands.0);
+  in_lent = omega (arith, ap length c.requires.lent.0);
+  threads = c.reverse.ensures.capacity;
+  hands = refl;
+  lent = refl;
+}
 
 pub loop-worker-preserved : goal.loop-worker-preserved
 loop-worker-preserved c =
     let i = c.loop-worker.invariant in
     let w = c.in-Some.worker in
-    let off = sym c.get.ensures ∙ c.if-get.false in
-    let last = last_left c.loop-worker.threads.items c.pop.new.self.items w c.in-Some.ensures.items in
+    let k = c.loop-worker.actor in
+    let put = c.put.ensures.put in
+    let bit : is_in (is_set c.args.awake) k ≡ c.get.result =
+    ap (is_set c.args.awake) (let at : suc k ≡ k + 1 = omega arith in at) ∙ sym c.get.ensures in
     record {
-      inside = (i.inside.0, i.inside.1, pile_stays (is_in c.args.awake) (c.loop-worker.actor + 1) i.inside.0 (reverse c.loop-worker.threads.items) i.inside.2 w (reverse c.pop.new.self.items) off last);
-      outside = cc (pile_grows (is_out c.args.awake) (c.loop-worker.actor + 1) c.loop-worker.lent.items (reverse c.loop-worker.threads.items) i.outside w (reverse c.pop.new.self.items) (not_from_false _ off) last);
+      piles = piles_go_on (is_set c.args.awake) k (k + 1) c.get.result refl bit c.pop.new.self.items c.loop-worker.hands.items c.loop-worker.lent.items w
+          c.in-Some.ensures.items put i.piles;
       count = omega (arith, i.count, c.in-Some.ensures.len);
-      in_hands = omega (arith, i.in_hands);
-      in_lent = omega (arith, i.in_lent, ap length c.push_reserved-else-get.ensures.items ∙ length-append c.loop-worker.lent.items _);
+      in_hands = omega (arith, i.in_hands, put_few _ w c.loop-worker.hands.items put.0);
+      in_lent = omega (arith, i.in_lent, put_few _ w c.loop-worker.lent.items put.1);
       threads = c.pop.ensures.capacity ∙ i.threads;
-      hands = i.hands;
-      lent = c.push_reserved-else-get.ensures.capacity ∙ i.lent;
+      hands = c.put.ensures.places.0 ∙ i.hands;
+      lent = c.put.ensures.places.1 ∙ i.lent;
     }
 
 pub returns-clause-dealt : goal.returns-clause-dealt
 returns-clause-dealt c =
-    let i = c.loop-worker.invariant in
     let none : c.loop-worker.threads.items ≡ [] = drop_of_length-le c.loop-worker.threads.items {i = 0} (omega (arith, c.in_default.ensures.cases)) in
-    let left = ap reverse none in (
-      i.inside.1 ∙ ap (map Thread) (pile_whole (is_in c.args.awake) (c.loop-worker.actor + 1) i.inside.0 (reverse c.loop-worker.threads.items) i.inside.2 left),
-      pile_whole (is_out c.args.awake) (c.loop-worker.actor + 1) c.loop-worker.lent.items (reverse c.loop-worker.threads.items) i.outside left,
-    )
+    let piles = c.loop-worker.invariant.piles in
+    let end = piles_end (is_set c.args.awake) c.loop-worker.actor c.loop-worker.hands.items c.loop-worker.lent.items none in
+    (sym end.0 ∙ piles.0, sym end.1 ∙ piles.1)

@@ -1,14 +1,13 @@
 -- the workers so far are dealt, and there are places for the others
-use Rattle.std.proofs.Common.{◌≡◌, ◌+◌, ◌++◌, ◌≤◌, List, map, length, reverse, vec_capacity}
-use Rattle.pas_threads.specs.{Dealing.{picked, is_in, is_out}, declared.{workers.Worker.Worker, hands.Hand.TheVariants.Thread}}
+use Rattle.std.proofs.Common.{◌≡◌, ◌+◌, ◌≤◌, length, vec_capacity}
+use Rattle.pas_bits.specs.Masks.{is_set}
+use Rattle.pas_threads.{specs.Dealing.{picked, is_in, is_out}, proofs.Dealt.Piles}
 use Rattle.pas_threads.proofs.dealing.deal.Given as goal
 
 abbrev pub invariant-loop-worker : goal.invariant-loop-worker
 invariant-loop-worker l = record {
-  inside :
-      (own : List Worker) × (l.hands.items ≡ map Thread own)
-      × (own ++ picked (is_in l.awake) (l.actor + 1) (reverse l.threads.items) ≡ picked (is_in l.awake) 1 l.fn.threads.items);
-  outside : l.lent.items ++ picked (is_out l.awake) (l.actor + 1) (reverse l.threads.items) ≡ picked (is_out l.awake) 1 l.fn.threads.items;
+  piles : Piles (is_set l.awake) l.actor l.threads.items l.hands.items l.lent.items (picked (is_in (is_set l.awake)) l.fn.threads.items)
+      (picked (is_out (is_set l.awake)) l.fn.threads.items);
   count : l.actor + length l.threads.items ≡ length l.fn.threads.items;
   in_hands : length l.hands.items ≤ l.actor;
   in_lent : length l.lent.items ≤ l.actor;

@@ -1,56 +1,68 @@
-use Rattle.std.proofs.{Common.{◌≡◌, ◌∙◌, ◌+◌, ◌-◌, ℕ, suc, inl, inr, ap, sym, refl, subst, arith, length, length-append}, lemmas.Bool.cases_Bool}
+use Rattle.std.proofs.{Common.{◌≡◌, ◌∙◌, ◌+◌, ◌-◌, ◌<◌, true, false, suc, ap, sym, refl, subst, arith, length, length-append}, lemmas.List.nil_from_length}
 use Rattle.pas_bits.specs.Masks.{is_set}
-use Rattle.pas_threads.proofs.{Dealt.{SoTaken, none_taken, some_in, some_out, taken_in, taken_out, all_taken}, dealing.take_back.Goals.After-get}
+use Rattle.pas_threads.{specs.Dealing.{count_of, is_in, is_out}, proofs.Dealt.{Piles, piles_begin, piles_end, piles_go_back, sized_back, one_there}}
+use Rattle.pas_threads.proofs.dealing.take_back.Goals.{After-get}
 use Rattle.pas_threads.proofs.dealing.take_back.Goals as goal
 
--- the next of the threads that are left
-module _ (c : After-get) where
-  abbrev left : ℕ
-  left = c.args.count - (c.loop-below.below + 1)
-
-  -- What was taken back so far, with one hand fewer left.
-  so : SoTaken c.args.awake (suc left) c.args.hands.now.items c.args.lent.now.items c.loop-below.threads.items c.loop-below.hands.items c.loop-below.lent.items
-  so =
-      subst
-      (λ n. SoTaken c.args.awake n c.args.hands.now.items c.args.lent.now.items c.loop-below.threads.items c.loop-below.hands.items c.loop-below.lent.items)
-      (let one : c.args.count - c.loop-below.below ≡ suc left = omega (arith, c.loop-below-test.true) in one) c.loop-below.invariant.so
-
-  its_bit : is_set c.args.awake (1 + length c.loop-below.threads.items) ≡ c.get.result
-  its_bit = ap (is_set c.args.awake) (let at : 1 + length c.loop-below.threads.items ≡ c.loop-below.below + 1 = omega (arith, c.loop-below.invariant.many) in at) ∙ sym c.get.ensures
-
-pub loop-below-init : goal.loop-below-init
-loop-below-init c = record {
-  so = subst (λ n. SoTaken c.args.awake n c.args.hands.now.items c.args.lent.now.items c.args.threads.now.items c.reverse.new.self.items c.reverse-2.new.self.items) (let same : c.args.count ≡ c.args.count - 0 = omega arith in same)
-      (none_taken c.requires.none.0 c.reverse.ensures.items c.reverse-2.ensures.items c.requires.sized);
-  many = ap length c.requires.none.0;
+pub loop-left-init : goal.loop-left-init
+loop-left-init c = record {
+  piles = piles_end (is_set c.args.awake) c.args.count c.args.hands.now.items c.args.lent.now.items c.requires.none.0;
+  sized = c.requires.sized;
+  count = omega (arith, ap length c.requires.none.0);
   threads = refl;
-  hands = c.reverse.ensures.capacity;
-  lent = c.reverse-2.ensures.capacity;
+  hands = refl;
+  lent = refl;
 }
 
-pub next_back-worker-requires-clause-awake : goal.next_back-worker-requires-clause-awake
-next_back-worker-requires-clause-awake c = let d = (goal.at.next_back-worker-requires-clause-awake c).After-get in λ on. some_in (so d) (its_bit d ∙ on)
+module _ (c : After-get) where
+  -- the last of the threads that are left
+  its_place : c.loop-left.left ≡ c.loop-left.left - 1 + 1
+  its_place = omega (arith, c.loop-left-test.true)
 
-pub next_back-worker-requires-clause-idle : goal.next_back-worker-requires-clause-idle
-next_back-worker-requires-clause-idle c = let d = (goal.at.next_back-worker-requires-clause-idle c).After-get in λ off. some_out (so d) (its_bit d ∙ off)
+  -- The mask says of it what was found.
+  its_bit : is_in (is_set c.args.awake) (c.loop-left.left - 1) ≡ c.get.result
+  its_bit = ap (is_set c.args.awake) (let at : suc (c.loop-left.left - 1) ≡ c.loop-left.left = omega (arith, c.loop-left-test.true) in at) ∙ sym c.get.ensures
 
-pub loop-below-preserved : goal.loop-below-preserved
-loop-below-preserved c =
-    let d = (goal.at.loop-below-preserved c).After-get in
-    let i = c.loop-below.invariant in
+  -- So it is there to be taken.
+  there : (c.get.result ≡ true → 0 < length c.loop-left.hands.items) × (c.get.result ≡ false → 0 < length c.loop-left.lent.items)
+  there = one_there (is_set c.args.awake) (c.loop-left.left - 1) c.loop-left.left c.get.result its_place its_bit c.loop-left.hands.items c.loop-left.lent.items
+      c.loop-left.invariant.sized
+
+pub take_last-worker-requires-clause-hands : goal.take_last-worker-requires-clause-hands
+take_last-worker-requires-clause-hands c = (there (goal.at.take_last-worker-requires-clause-hands c).After-get).0
+
+pub take_last-worker-requires-clause-lent : goal.take_last-worker-requires-clause-lent
+take_last-worker-requires-clause-lent c = (there (goal.at.take_last-worker-requires-clause-lent c).After-get).1
+
+pub loop-left-preserved : goal.loop-left-preserved
+loop-left-preserved c =
+    let i = c.loop-left.invariant in
+    let n = c.loop-left.left in
+    let w = c.take_last-worker.result in
+    let put = c.take_last-worker.ensures.taken in
+    let pushed = c.push_reserved.ensures.items in
+    let d = (goal.at.loop-left-preserved c).After-get in
+    let back = c.loop-left.threads.items in
+    let hands = c.take_last-worker.new.hands.items in
+    let lent = c.take_last-worker.new.lent.items in
     record {
-      so = elim (cases_Bool c.get.result) [
-        | inl on ↦ let back = c.next_back-worker.ensures.awake on in taken_in (so d) c.next_back-worker.result (its_bit d ∙ on) back.0 back.1 c.push_reserved.ensures.items
-        | inr off ↦ let back = c.next_back-worker.ensures.idle off in taken_out (so d) c.next_back-worker.result (its_bit d ∙ off) back.0 back.1 c.push_reserved.ensures.items
-      ];
-      many = omega (arith, i.many, ap length c.push_reserved.ensures.items ∙ length-append c.loop-below.threads.items _);
+      piles = piles_go_back (is_set c.args.awake) (n - 1) n c.get.result (its_place d) (its_bit d) back hands lent w pushed put i.piles;
+      sized = sized_back (is_set c.args.awake) (n - 1) n c.get.result (its_place d) (its_bit d) hands lent w put i.sized;
+      count = omega (arith, i.count, its_place d, ap length pushed ∙ length-append back _);
       threads = c.push_reserved.ensures.capacity ∙ i.threads;
-      hands = c.next_back-worker.ensures.places.0 ∙ i.hands;
-      lent = c.next_back-worker.ensures.places.1 ∙ i.lent;
+      hands = c.take_last-worker.ensures.places.0 ∙ i.hands;
+      lent = c.take_last-worker.ensures.places.1 ∙ i.lent;
     }
 
 pub returns-clause-dealt : goal.returns-clause-dealt
-returns-clause-dealt c = (all_taken c.loop-below.invariant.so (omega (arith, c.loop-below-test.false))).0
-
-pub returns-clause-none : goal.returns-clause-none
-returns-clause-none c = let all = all_taken c.loop-below.invariant.so (omega (arith, c.loop-below-test.false)) in (all.1, all.2)
+returns-clause-dealt c =
+    let i = c.loop-left.invariant in
+    let none : c.loop-left.left ≡ 0 = omega (arith, c.loop-left-test.false) in
+    let hands = nil_from_length c.loop-left.hands.items (i.sized.0 ∙ ap (count_of (is_in (is_set c.args.awake))) none) in
+    let lent = nil_from_length c.loop-left.lent.items (i.sized.1 ∙ ap (count_of (is_out (is_set c.args.awake))) none) in
+    let back = c.loop-left.threads.items in
+    let all = piles_begin (is_set c.args.awake) back hands lent c.reverse.ensures.items in
+    let ins = c.args.hands.now.items in
+    let outs = c.args.lent.now.items in
+    let piles = subst (λ n. Piles (is_set c.args.awake) n back c.loop-left.hands.items c.loop-left.lent.items ins outs) none i.piles in
+    (sym piles.0 ∙ all.0, sym piles.1 ∙ all.1)

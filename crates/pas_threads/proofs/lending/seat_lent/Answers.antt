@@ -1,9 +1,13 @@
 use Rattle.std.proofs.Common.{◌≡◌, ◌≢◌, ◌∙◌, refl, sym, subst, arith, get_or-set_other}
-use Rattle.pas_threads.{specs.{Hands.HasPass, declared.workers.Worker.Worker}, proofs.CrewSits.{seats_begin, seats_go_on, seats_end}}
+use Rattle.pas_threads.{specs.{Hands.HasPass, declared.workers.Worker.Worker}, proofs.CrewSits.{seats_go_on, seats_end}}
 use Rattle.pas_threads.proofs.lending.seat_lent.Goals as goal
 
 pub loop-index-init : goal.loop-index-init
-loop-index-init c = record { of = c.requires.of; left = λ j d from. refl; far = λ s p lent crew tell. seats_begin c.args.lent.now crew tell }
+loop-index-init c = record {
+  of = c.requires.of;
+  left = λ j d from. refl;
+  far = λ s p lent crew tell. record { each = λ j d less within. absurd (omega (arith, less)); left = λ j d from. refl; crew = crew; tell = tell };
+}
 
 pub seat_one-requires-clause-has : goal.seat_one-requires-clause-has
 seat_one-requires-clause-has c =

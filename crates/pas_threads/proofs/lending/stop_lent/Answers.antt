@@ -1,7 +1,7 @@
 use Rattle.std.proofs.{Common.{◌∙◌, Some, refl, ap, sym, subst}, lemmas.Option.same_Some}
-use Rattle.pas_shared.specs.Benches.{MaySitOn}
+use Rattle.pas_shared.specs.Benches.{MaySitOn, StandsOver, row_on}
 use Rattle.pas_acts.proofs.AtDesk.{leaves_rest}
-use Rattle.pas_threads.proofs.CrewSits.{may_sit, may_again, rests_at, home_moved, was_stopped}
+use Rattle.pas_threads.proofs.CrewSits.{may_sit, may_again, rests_at, home_moved, sits_beside}
 use Rattle.pas_threads.proofs.lending.stop_lent.Goals as goal
 
 pub replace-risen-requires : goal.replace-risen-requires
@@ -32,4 +32,14 @@ returns-clause-stops c = λ h f k later p at w read.
     let did = c.stop_and_tell.ensures.stops f k later p
     (rests_at c.replace-risen.new.self (sym c.take.ensures.value ∙ c.in-Some.is) sat.bench sat.member at w) read in
     let home = c.stop_and_tell.ensures.home ∙ (home_moved c.args.desk.now c.replace-risen.new.self sat.region sat.bench ∙ at.home) in
-    was_stopped c.replace-risen.new.self c.stop_and_tell.new.desk sat.bench home c.replace.ensures.bench (ap Some c.replace.ensures.risen) refl refl did
+    record {
+      stopped = did.0;
+      sat = c.replace-risen.new.self;
+      risen = c.stop_and_tell.new.desk;
+      does = did.1;
+      sits = sits_beside c.stop_and_tell.new.desk home (ap Some c.replace.ensures.risen) did.1.stands;
+      over = subst (λ b. StandsOver (row_on b) did.1.reached.list) (sym c.replace.ensures.bench) did.1.stands.sits.stood.1;
+      requests = refl;
+      keeper = refl;
+      told = did.2;
+    }

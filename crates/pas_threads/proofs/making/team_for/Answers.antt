@@ -8,16 +8,13 @@ use Rattle.pas_threads.{specs.Kits.{AreEquipped, IsSupplied, AreKeptBy}, proofs.
 use Rattle.pas_threads.proofs.making.team_for.Goals as goal
 
 -- the passes of the threads, and those of the keepers behind them
-own_many : (threads keepers : ℕ) (all own : List SharedPass) → length all ≡ threads + keepers → own ≡ take threads all → length own ≡ threads
-own_many threads keepers all own many is = ap length is ∙ length-take-le threads all (omega (arith, many))
-
-kept_many : (threads keepers : ℕ) (all kept : List SharedPass) → length all ≡ threads + keepers → kept ≡ drop threads all → length kept ≡ keepers
-kept_many threads keepers all kept many is =
-    omega (arith, ap length is, length-drop threads all, many)
-
--- The passes of threads and keepers, one after the other, are all.
-both : (threads : ℕ) (all own kept : List SharedPass) → own ≡ take threads all → kept ≡ drop threads all → all ≡ own ++ kept
-both threads all own kept first last = sym (take-append-drop threads all) ∙ ap (λ ps. ps ++ drop threads all) (sym first) ∙ ap (λ ps. own ++ ps) (sym last)
+cut : (threads keepers : ℕ) (all own kept : List SharedPass) → length all ≡ threads + keepers → own ≡ take threads all → kept ≡ drop threads all
+    → (length own ≡ threads) × (length kept ≡ keepers) × (all ≡ own ++ kept)
+cut threads keepers all own kept many first last = (
+  ap length first ∙ length-take-le threads all (omega (arith, many)),
+  omega (arith, ap length last, length-drop threads all, many),
+  cc (take-append-drop threads all, first, last),
+)
 
 pub caches_for-requires-clause-few : goal.caches_for-requires-clause-few
 caches_for-requires-clause-few c =
@@ -26,15 +23,14 @@ caches_for-requires-clause-few c =
 pub workers_for-requires-clause-bounds : goal.workers_for-requires-clause-bounds
 workers_for-requires-clause-bounds c =
     let plan = c.args.plan.now in
-    let own = own_many (threads_of plan) (keepers_of plan) c.args.others.items c.split_off.new.self.items c.requires.passes c.in-Ok.ensures.items in
-    let kept = kept_many (threads_of plan) (keepers_of plan) c.args.others.items c.in-Ok.kept.items c.requires.passes c.in-Ok.ensures.tail in
-    omega (arith, ap length c.as_slice-bounds.ensures ∙ plan_bounds c.requires.plan.1, own, kept, plan_actors plan)
+    let cut = cut (threads_of plan) (keepers_of plan) c.args.others.items _ _ c.requires.passes c.in-Ok.ensures.items c.in-Ok.ensures.tail in
+    omega (arith, ap length c.as_slice-bounds.ensures ∙ plan_bounds c.requires.plan.1, cut.0, cut.1, plan_actors plan)
 
 pub workers_for-requires-clause-books : goal.workers_for-requires-clause-books
 workers_for-requires-clause-books c =
     let plan = c.args.plan.now in
-    let kept = kept_many (threads_of plan) (keepers_of plan) c.args.others.items c.in-Ok.kept.items c.requires.passes c.in-Ok.ensures.tail in
-    omega (arith, c.in_ok-books.ensures.many, kept)
+    let cut = cut (threads_of plan) (keepers_of plan) c.args.others.items _ _ c.requires.passes c.in-Ok.ensures.items c.in-Ok.ensures.tail in
+    omega (arith, c.in_ok-books.ensures.many, cut.1)
 
 pub bounds-bounds-0 : goal.bounds-bounds-0
 bounds-bounds-0 c =
@@ -46,8 +42,9 @@ returns c =
     let own = c.split_off.new.self.items in
     let kept = c.in-Ok.kept.items in
     let threads = c.in_ok-threads.threads in
-    let many : length own ≡ threads_of plan = own_many (threads_of plan) (keepers_of plan) c.args.others.items own c.requires.passes c.in-Ok.ensures.items in
-    let size : length kept ≡ keepers_of plan = kept_many (threads_of plan) (keepers_of plan) c.args.others.items kept c.requires.passes c.in-Ok.ensures.tail in
+    let cut = cut (threads_of plan) (keepers_of plan) c.args.others.items own kept c.requires.passes c.in-Ok.ensures.items c.in-Ok.ensures.tail in
+    let many : length own ≡ threads_of plan = cut.0 in
+    let size : length kept ≡ keepers_of plan = cut.1 in
     let equipped : AreEquipped (bounds_of plan.bounds) own threads.items = subst
     (λ bs. AreEquipped bs own threads.items) c.as_slice-bounds.ensures c.in_ok-threads.ensures.workers in
     let workers : length threads.items ≡ threads_of plan = equipped.many ∙ many in
@@ -57,7 +54,7 @@ returns c =
     let hands = c.in-Ok-with_capacity.ensures.capacity in (
       own,
       kept,
-      both (threads_of plan) c.args.others.items own kept c.in-Ok.ensures.items c.in-Ok.ensures.tail,
+      cut.2,
       many,
       record {
         scavenger = subst (λ bs. IsSupplied (region_of plan) c.args.first (slice_index bs 0) c.in_ok-scavenger.scavenger) c.as_slice-bounds.ensures

@@ -1,5 +1,6 @@
-use Rattle.std.proofs.{Common.{◌∙◌, suc, length, get_or, refl, ap, sym, subst, arith}, lemmas.List.with_items_is}
+use Rattle.std.proofs.{Common.{◌∙◌, suc, length, get_or, refl, ap, sym, subst, arith, ◌≡◌}, lemmas.List.with_items_is}
 use Rattle.pas_threads.{specs.Settling.{HasHeard, HasBench, IsButBench}, proofs.TakingTurns.{bench_left, heard_still, is_heard}}
+use Rattle.pas_bits.specs.Masks.{is_set}
 use Rattle.pas_threads.proofs.phases.perform_and_hear.Goals as goal
 
 pub hear_all-requires-clause-few : goal.hear_all-requires-clause-few
@@ -8,12 +9,13 @@ hear_all-requires-clause-few g c =
     omega (arith, ap length c.deref_mut.ensures.value, (c.perform_all-team.ensures.done r.0 r.1 r.2 r.3 r.4).many, r.4.many, r.4.few)
 
 pub hear_all-requires-clause-left : goal.hear_all-requires-clause-left
-hear_all-requires-clause-left g c = λ i d lt on.
+hear_all-requires-clause-left g c = λ i k d lt is on.
     let r = c.requires.ready in
     let acted = c.perform_all-team.ensures.done r.0 r.1 r.2 r.3 r.4 in
     let value = c.deref_mut.ensures.value in
     subst (λ ws. HasBench c.args.region.now (get_or ws i d).bench) (sym value)
-    (bench_left ((acted.pieces (suc i)).left i d refl (omega (arith, lt, ap length value, acted.many)) (sym (c.requires.awake (suc i)) ∙ on)))
+    (bench_left ((acted.pieces (suc i)).left i d refl (omega (arith, lt, ap length value, acted.many))
+    (sym (c.requires.awake (suc i)) ∙ ap (is_set c.args.awake) (let at : suc i ≡ k = omega (arith, is) in at) ∙ on)))
 
 pub hear_if-requires-clause-bench : goal.hear_if-requires-clause-bench
 hear_if-requires-clause-bench g c = λ on.
@@ -35,5 +37,7 @@ returns-clause-done g c = λ s later more p ready.
     (subst (λ ws. IsButBench (get_or ws i d) (get_or c.hear_all.new.workers i d)) value (c.hear_all.ensures.same i d (omega (arith, lt, size)))))
     (ap length now ∙ c.hear_all.ensures.many ∙ size) refl refl
     (record { workers = acted.places.workers; hands = acted.places.hands; lent = acted.places.lent; free = acted.places.free })
-    (λ i d lt on. heard_still c.hear_all.new.ledger c.hear_if.new.ledger c.hear_if.ensures.saw (subst (λ ws. HasHeard c.hear_all.new.ledger (get_or ws i d).bench) value (c.hear_all.ensures.heard i d (omega (arith, lt, size)) (c.requires.awake (suc i) ∙ on))))
+    (λ i d lt on. heard_still c.hear_all.new.ledger c.hear_if.new.ledger c.hear_if.ensures.saw
+    (subst (λ ws. HasHeard c.hear_all.new.ledger (get_or ws i d).bench) value
+    (c.hear_all.ensures.heard i (suc i) d (omega (arith, lt, size)) (omega arith) (c.requires.awake (suc i) ∙ on))))
     (λ on. c.hear_if.ensures.heard (c.get-busy.ensures ∙ c.requires.awake 0 ∙ on))

@@ -5,11 +5,11 @@ use Rattle.pas_records.specs.Rooms.{records_in, room_of}
 use Rattle.pas_shared.specs.Ledgers.{so_far, looks_of}
 use Rattle.pas_answers.specs.{Answers.Progress, Names.names_held}
 use Rattle.pas_threads.specs.{Sessions.{planned, Session, AreResting, HasPlaces, TeamAt}, Settling.ActorsStand, Taken.IsWithin, Turns.said_by_all}
-use Rattle.pas_threads.{specs.{Turns.said_by_keepers, declared.{phases.Team.Team, scavenger.Scavenger.Scavenger}}, proofs.TakingTurns.{first_of, WereGathered}}
-use Rattle.pas_threads.proofs.{TakingTurns.{WereTaken, IsScavengerCleared, were_gathered, were_taken, taken_as}, Staging.team_stands}
-use Rattle.pas_threads.proofs.{phases.perform_phase.{Given.Over, Goals.{After-note, After-gather, After-take_all}}, ReadyPhases.{HasBegun, settled_team}}
-use Rattle.pas_threads.proofs.{ReadyPhases.{begun_as, begun_stands, woke_stands}, PhaseTeams.{may_append, gather_fits, may_take, reached, phase_team}}
-use Rattle.pas_threads.proofs.PhaseTeams.{phase_went, phase_done}
+use Rattle.pas_threads.{specs.{Turns.{said_by_keepers, WereGathered}, declared.{phases.Team.Team, scavenger.Scavenger.Scavenger}}, proofs.TakingTurns.first_of}
+use Rattle.pas_threads.proofs.{TakingTurns.{WereTaken, IsScavengerCleared, were_taken, taken_as}, Staging.team_stands, phases.perform_phase.Given.Over}
+use Rattle.pas_threads.proofs.{phases.perform_phase.Goals.{After-note, After-gather, After-take_all}, ReadyPhases.{HasBegun, settled_team, begun_as}}
+use Rattle.pas_threads.proofs.{ReadyPhases.{begun_stands, woke_stands}, PhaseTeams.{may_append, gather_fits, may_take, reached, phase_team, phase_went}}
+use Rattle.pas_threads.proofs.PhaseTeams.{phase_done}
 use Rattle.pas_acts.proofs.Naming.{sound_front, below_front}
 use Rattle.pas_threads.proofs.phases.perform_phase.Goals as goal
 
@@ -68,16 +68,13 @@ gather-requires g c =
     let out = c.append.new.self in
     let begun = begun g (goal.at.gather-requires g c).After-note m.4.team_at in
     let heard = c.perform_and_hear-team.ensures.done m.0 _ _ begun.woke.turns.came.reached begun.ready in
-    record {
-      room = subst (λ ws. length (records_in out) + (length (said_by_all ws) + length (said_by_keepers ws)) ≤ room_of out) (sym c.deref_mut-3.ensures.value)
-          (gather_fits c.args.ops.now m.1 m.4.team_at begun heard.done m.2 c.args.out.now m.4.room out c.append.ensures.added c.append.ensures.size);
-    }
+    subst (λ ws. length (records_in out) + (length (said_by_all ws) + length (said_by_keepers ws)) ≤ room_of out) (sym c.deref_mut-3.ensures.value)
+    (gather_fits c.args.ops.now m.1 m.4.team_at begun heard.done m.2 c.args.out.now m.4.room out c.append.ensures.added c.append.ensures.size)
 
 module _ (g : Over) (c : After-gather g) where
   -- The records of the threads and the keepers were gathered.
   own : WereGathered c.perform_and_hear-team.result.threads.items c.gather.new.threads c.append.new.self c.gather.new.out
-  own = were_gathered c.gather.new.threads c.append.new.self c.gather.new.out c.deref_mut-3.ensures.value c.gather.ensures.added c.gather.ensures.room
-      c.gather.ensures.gathered c.gather.ensures.many
+  own = subst (λ ws. WereGathered ws c.gather.new.threads c.append.new.self c.gather.new.out) c.deref_mut-3.ensures.value c.gather.ensures
 
   -- The workers once these were gathered.
   given : (with_items c.perform_and_hear-team.result.threads c.gather.new.threads).items ≡ c.gather.new.threads
@@ -169,7 +166,8 @@ returns g c =
           let many = ap length c.settle-2.ensures.same ∙ c.deref_mut-5.ensures.len in
           let back = with_items_is team3.threads c.settle-2.new.threads many ∙ c.settle-2.ensures.same ∙ c.deref_mut-5.ensures.value ∙ last in
           let lent = subst (λ (v : Scavenger). s.threads ≤ vec_capacity v.lent) (sym same) places.lent in
-          phase_done ops rest whole begun done c.active-awake.ensures c.append.ensures.added c.append.ensures.size own _ (taken_as back taken)
+          phase_done ops rest at begun done marks c.args.out.now whole.room c.append.new.self c.append.ensures.added c.append.ensures.size own
+          c.active-awake.ensures whole.marked _ (taken_as back taken)
           (subst (IsScavengerCleared c.perform_and_hear-team.result.scavenger) (sym same) clear)
           (record { workers = places.workers; hands = places.hands; lent = lent; free = places.free }) went;
     }

@@ -3,8 +3,8 @@ use Rattle.pas_trace.specs.{Plans.ops_of, declared.plan.Op.Op}
 use Rattle.pas_answers.specs.Replays.{at_start}
 use Rattle.pas_shared.specs.Ledgers.{so_far}
 use Rattle.pas_threads.{specs.Sessions.{Session, TeamAt, HasRoom}, proofs.BetweenPhases.{AfterPhases, BeforePhase, BeforeClose, no_phase, as_next, as_last}}
-use Rattle.pas_threads.proofs.BetweenPhases.{spare_for_mark, first_begins, other_begins, phase_ends, spare_for_close, close_begins, close_ends}
-use Rattle.pas_threads.proofs.phases.replay.{Given.Over, Goals.{then-number-gt-UNMARKED, else-number-gt-UNMARKED, After-as_slice, After-push-2}}
+use Rattle.pas_threads.proofs.{BetweenPhases.{spare_for_mark, first_begins, other_begins, phase_ends, close_begins, close_ends}, phases.replay.Given.Over}
+use Rattle.pas_threads.proofs.phases.replay.Goals.{then-number-gt-UNMARKED, else-number-gt-UNMARKED, After-as_slice, After-push-2}
 use Rattle.pas_records.specs.{Rooms.records_in, declared.record.Record.Record}
 use Rattle.pas_threads.proofs.phases.replay.Goals as goal
 
@@ -49,7 +49,8 @@ perform_phase-team-requires-clause-may g c κs within =
     let st = c.requires.stands in
     let d = (goal.at.perform_phase-team-requires-clause-may g c).After-as_slice in
     let before = begun g d st.0 st.1 st.2 in
-    (st.0, rest g d st.0 st.1 st.2, length (rest g d st.0 st.1 st.2) + 1, before.p, before.at)
+    let left = rest g d st.0 st.1 st.2 in
+    (st.0, left, length left + 1, before.p, record { team_at = before.team_at; marked = before.marked; room = before.room })
 
 pub loop-phase-preserved : goal.loop-phase-preserved
 loop-phase-preserved g c =
@@ -57,7 +58,8 @@ loop-phase-preserved g c =
     record {
       far = λ s at room.
           let before = begun g d s at room in
-          phase_ends before (c.perform_phase-team.ensures.done s (rest g d s at room) (length (rest g d s at room) + 1) before.p before.at before.stand);
+          phase_ends c.loop-phase.phase-index before (c.perform_phase-team.ensures.done s (rest g d s at room) (length (rest g d s at room) + 1) before.p
+          (record { team_at = before.team_at; marked = before.marked; room = before.room }) before.stand);
       ledger = c.perform_phase-team.ensures.ledger;
       count = ap (λ n. n + 1) c.loop-phase.invariant.count;
     }
@@ -65,7 +67,7 @@ loop-phase-preserved g c =
 pub push-requires-2 : goal.push-requires-2
 push-requires-2 g c =
     let st = c.requires.stands in
-    spare_for_close (as_last c.args.phases.now c.loop-phase.phase-index c.loop-phase-test.false (c.loop-phase.invariant.far st.0 st.1 st.2))
+    spare_for_mark (as_last c.args.phases.now c.loop-phase.phase-index c.loop-phase-test.false (c.loop-phase.invariant.far st.0 st.1 st.2))
 
 -- before the stops: the mark of the close was written
 closing : (g : Over) (c : After-push-2 g) (s : Session) → TeamAt c.args.region.now s (map ops_of c.args.phases.now) c.args.team at_start

@@ -1,8 +1,7 @@
-use Rattle.std.proofs.{Common.{◌∙◌, refl, sym, subst}, lemmas.{List.with_items_is, Option.same_Some}}
-use Rattle.pas_utility.specs.Outcomes.{places_of}
+use Rattle.std.proofs.{Common.{◌∙◌, length, refl, ap, sym, subst}, lemmas.{List.with_items_is, Option.same_Some}}
 use Rattle.pas_shared.specs.Passes.{IsPassOf}
 use Rattle.pas_trace.specs.Acts.{scavenger_acts}
-use Rattle.pas_threads.{specs.{Hands.standing_of_pass, Crews.{crew, CrewAt}, Scavengers.{crew_of, CrewHasLeft}}, proofs.Benched.seated}
+use Rattle.pas_threads.{specs.{Crews.CrewAt, Scavengers.crew_of}, proofs.Benched.seated}
 use Rattle.pas_threads.proofs.scavenger.keep_up.Goals as goal
 
 pub scavenge_seated-pass-requires-clause-pass : goal.scavenge_seated-pass-requires-clause-pass
@@ -22,8 +21,7 @@ scavenge_seated-pass-requires-clause-may g c =
       may.asked,
       may.progress,
       may.sound,
-      subst (λ ws. CrewAt c.args.region.now s acts (crew (standing_of_pass pass) ws (places_of old.outcomes) old.out) may.progress)
-          (sym c.deref_mut.ensures.value) (seated (λ σ. CrewAt c.args.region.now s acts (crew_of σ old) may.progress) pass is may.stands.has may.stands.at),
+      rw c.deref_mut.ensures.value (seated (λ σ. CrewAt c.args.region.now s acts (crew_of σ old) may.progress) pass is may.stands.has may.stands.at),
     )
 
 pub returns : goal.returns
@@ -38,17 +36,9 @@ returns g c = record {
         let after = c.scavenge_seated-pass.result.0 in
         let bench = c.scavenge_seated-pass.result.1 in
         let lent = c.scavenge_seated-pass.new.lent in
-        let places = places_of c.scavenge_seated-pass.new.outcomes in
-        let out = c.scavenge_seated-pass.new.out in
-        let at = subst (λ ws. CrewAt region s acts (crew (standing_of_pass pass) ws (places_of old.outcomes) old.out) p) (sym c.deref_mut.ensures.value)
-        (seated (λ σ. CrewAt region s acts (crew_of σ old) p) pass is stands.has stands.at)
-        in
-        let first = subst (λ ws. CrewHasLeft region s acts after bench (crew (standing_of_pass pass) ws (places_of old.outcomes) old.out) (crew (standing_of_pass after) lent places out) p) c.deref_mut.ensures.value
-        (c.scavenge_seated-pass.ensures.did s asked p sound at)
-        in
-        let left = subst (λ ws. CrewHasLeft region s acts after bench (crew_of (standing_of_pass pass) old) (crew (standing_of_pass after) ws places out) p)
-        (sym (with_items_is old.lent lent (c.scavenge_seated-pass.ensures.many ∙ c.deref_mut.ensures.len))) first
-        in
+        let at = rw (sym c.deref_mut.ensures.value) at (seated (λ σ. CrewAt region s acts (crew_of σ old) p) pass is stands.has stands.at) in
+        let given = with_items_is old.lent lent (c.scavenge_seated-pass.ensures.many ∙ c.deref_mut.ensures.len) in
+        let left = rw (c.deref_mut.ensures.value, sym given) at (c.scavenge_seated-pass.ensures.did s asked p sound at) in
         let has = stands.has in
         record {
           did = record {
@@ -58,6 +48,8 @@ returns g c = record {
           };
           left = left.left;
         };
+    many = ap length (with_items_is c.args.scavenger.now.lent c.scavenge_seated-pass.new.lent (c.scavenge_seated-pass.ensures.many ∙ c.deref_mut.ensures.len))
+        ∙ c.scavenge_seated-pass.ensures.many ∙ ap length c.deref_mut.ensures.value;
     places = refl;
   };
 }

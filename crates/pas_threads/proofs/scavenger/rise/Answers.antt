@@ -1,7 +1,7 @@
 use Rattle.std.proofs.Common.{◌≡◌, sym, subst}
 use Rattle.pas_shared.specs.{Ruled.{made_in, only_this, isnt, rows_of_only}, Passes.{seat_of, view_of}, Benches.{first_row, rows_on, seat_of_member, HasLooked}}
-use Rattle.pas_shared.specs.{Benches.{IsBenchOf, SitsInRow}, declared.bench.Member.Member}
-use Rattle.pas_threads.proofs.CrewSits.{all_may_leave, own_sits, fresh_row, all_rose}
+use Rattle.pas_shared.specs.{Benches.IsBenchOf, declared.bench.Member.Member}
+use Rattle.pas_threads.proofs.CrewSits.{all_may_leave, own_sits, all_rose}
 use Rattle.pas_threads.proofs.scavenger.rise.Goals as goal
 
 pub look-requires : goal.look-requires
@@ -19,8 +19,8 @@ pub leave-pass-requires-clause-fresh : goal.leave-pass-requires-clause-fresh
 leave-pass-requires-clause-fresh c =
     let m = c.requires.may in
     let looked = subst (λ b. HasLooked (rows_on b) (rows_on c.look.new.self)) c.into_parts-bench.ensures.bench c.look.ensures.looked in
-    fresh_row c.args.desk m.2 c.look.new.self c.let_lent_leave.new.bench looked
-    (c.let_lent_leave.ensures.left m.0 _ _ m.1 (all_may_leave c.args.desk m.2 c.look.new.self looked))
+    let have = c.let_lent_leave.ensures.left m.0 _ _ m.1 (all_may_leave c.args.desk m.2 c.look.new.self looked) in
+    record { actors = have.actors; base = looked.base; is = have.fresh }
 
 pub leave-pass-requires-clause-profile : goal.leave-pass-requires-clause-profile
 leave-pass-requires-clause-profile c = cc
@@ -29,8 +29,8 @@ pub leave-pass-requires-clause-sits : goal.leave-pass-requires-clause-sits
 leave-pass-requires-clause-sits c =
     let m = c.requires.may in
     let looked = subst (λ b. HasLooked (rows_on b) (rows_on c.look.new.self)) c.into_parts-bench.ensures.bench c.look.ensures.looked in
-    subst (SitsInRow (first_row (rows_on c.let_lent_leave.new.bench))) (sym c.into_parts-bench.ensures.member)
-    (own_sits c.args.desk m.2 c.look.new.self c.let_lent_leave.new.bench looked (c.let_lent_leave.ensures.left m.0 _ _ m.1 (all_may_leave c.args.desk m.2 c.look.new.self looked)))
+    let have = c.let_lent_leave.ensures.left m.0 _ _ m.1 (all_may_leave c.args.desk m.2 c.look.new.self looked) in
+    rw c.into_parts-bench.ensures.member (own_sits c.args.desk m.2 c.look.new.self c.let_lent_leave.new.bench looked have)
 
 pub returns-clause-rose : goal.returns-clause-rose
 returns-clause-rose c = λ s p may.

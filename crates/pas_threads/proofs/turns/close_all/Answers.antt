@@ -1,92 +1,66 @@
-use Rattle.std.proofs.Common.{◌≡◌, ◌+◌, ◌-◌, ◌∙◌, true, None, [], length, get_or, refl, sym, subst, arith}
+use Rattle.std.proofs.Common.{◌≡◌, ◌+◌, ◌-◌, ◌∙◌, true, length, refl, sym, subst, arith, List, ℕ, ◌<◌}
 use Rattle.pas_shared.specs.Ledgers.{so_far}
 use Rattle.pas_answers.specs.Answers.{Progress}
-use Rattle.pas_threads.specs.{Settling.ActorsStand, Closing.{ClosedSo, ClosesNext}, Sessions.{Session, StandSo, WorkersRest}}
-use Rattle.pas_threads.{specs.declared.scavenger.Scavenger.Scavenger, proofs.Closing.{closed_stand, settles_begin, settles_next, settles_pass}}
-use Rattle.pas_threads.proofs.turns.close_all.Goals.{After-close_one, then-close_one, else-close_one}
+use Rattle.pas_threads.specs.{Settling.ActorsStand, Closing.{ClosedSo, ClosesNext, MayClose, MayCloseAt}, Sessions.Session}
+use Rattle.pas_threads.{specs.declared.{scavenger.Scavenger.Scavenger, workers.Worker.Worker}, proofs.Closing.{closed_stand, settles_begin, settles_next}}
+use Rattle.pas_threads.proofs.{turns.close_all.Goals.After-close_one, Keepers.most_keepers}
 use Rattle.pas_threads.proofs.turns.close_all.Goals as goal
 
 pub loop-place-init : goal.loop-place-init
-loop-place-init c = record { of = c.requires.of; same = refl; closed = λ s p rest stand stood. settles_begin rest stand stood }
+loop-place-init c = record { of = c.requires.of; same = refl; closed = λ s p may. settles_begin may }
+
+-- what an actor that is there needs for its act
+may_at : {region s slot so_far p : _} {old now : List Worker} {i actors : ℕ} → MayClose region s slot old so_far p → length now ≡ length old
+    → actors ≡ length old + s.keepers → i < actors → MayCloseAt s i old now
+may_at may many is lt = record { threads = sym may.rest.many; many = many; guarded = may.rest.guarded; there = omega (arith, is, lt, may.rest.many) }
 
 pub close_one-requires-clause-place : goal.close_one-requires-clause-place
-close_one-requires-clause-place c = let many = c.loop-place.auto.threads in let lt = c.loop-place-test.true in omega (arith, many, lt)
+close_one-requires-clause-place c =
+    let may = c.requires.may.2 in
+    let all = c.closing_actors-actors.ensures c.requires.may.0.keepers may.rest.guarded in
+    omega (arith, c.loop-place.auto.threads, c.loop-place-test.true, all, most_keepers c.args.threads.now may.rest.guarded)
 
 pub close_one-requires-clause-so_far : goal.close_one-requires-clause-so_far
 close_one-requires-clause-so_far c =
-    let r = c.requires.rest in
-    (r.0, c.args.threads.now, r.1, sym r.2.many ∙ sym c.loop-place.auto.threads, c.loop-place.auto.threads, (c.loop-place.invariant.closed r.0 r.1 r.2 r.3 r.4).closing)
+    let r = c.requires.may in
+    let at = may_at r.2 c.loop-place.auto.threads (c.closing_actors-actors.ensures r.0.keepers r.2.rest.guarded) c.loop-place-test.true in
+    (r.0, c.args.threads.now, r.1, at, (c.loop-place.invariant.closed r.0 r.1 r.2).closing)
 
 -- the actor at this place made its act
-module _ (c : After-close_one) where
-  next : c.close_one.result ≡ true → (s : Session) (p : Progress) (rest : WorkersRest c.args.region.now s [] c.args.threads.now p)
-      (stand : ActorsStand c.args.region.now s c.args.scavenger.now.pass c.args.threads.now p.list) (stood : StandSo s (so_far c.args.ledger.now) p.list)
-      → ClosesNext c.args.region.now s c.loop-place.place c.args.threads.now c.loop-place.threads c.close_one.new.workers p (c.loop-place.invariant.closed s p rest stand stood).closing
-  next on s p rest stand stood =
-      c.close_one.ensures.next on s c.args.threads.now p rest.guarded (sym rest.many) c.loop-place.auto.threads (c.loop-place.invariant.closed s p rest stand stood).closing
+module _ (c : After-close_one) (s : Session) (p : Progress)
+    (may : MayClose c.args.region.now s c.args.scavenger.now.pass c.args.threads.now (so_far c.args.ledger.now) p) where
+  next : ClosesNext c.args.region.now s c.loop-place.place c.args.threads.now c.loop-place.threads c.close_one.new.workers p
+      (c.loop-place.invariant.closed s p may).closing
+  next = c.close_one.ensures.next s c.args.threads.now p
+      (may_at may c.loop-place.auto.threads (c.closing_actors-actors.ensures s.keepers may.rest.guarded) c.loop-place-test.true)
+      (c.loop-place.invariant.closed s p may).closing
 
-  -- There are as many workers as before.
-  many : length c.close_one.new.workers ≡ length c.args.threads.now
-  many = c.close_one.ensures.many ∙ c.loop-place.auto.threads
-
-  then_stand : (on : c.close_one.result ≡ true) (s : Session) (p : Progress) (rest : WorkersRest c.args.region.now s [] c.args.threads.now p)
-      (stand : ActorsStand c.args.region.now s c.args.scavenger.now.pass c.args.threads.now p.list) (stood : StandSo s (so_far c.args.ledger.now) p.list)
-      → ActorsStand c.args.region.now s c.loop-place.scavenger.pass c.close_one.new.workers (next on s p rest stand stood).next.came.reached.list
-  then_stand on s p rest stand stood =
-      let n = next on s p rest stand stood in
-      subst (λ (v : Scavenger). ActorsStand c.args.region.now s v.pass c.close_one.new.workers n.next.came.reached.list) (sym c.loop-place.invariant.same)
-      (closed_stand n.next many stand)
-
-pub settle-requires-clause-of : goal.settle-requires-clause-of
-settle-requires-clause-of c = c.loop-place.invariant.of
+  then_stand : ActorsStand c.args.region.now s c.loop-place.scavenger.pass c.close_one.new.workers next.next.came.reached.list
+  then_stand = subst (λ (v : Scavenger). ActorsStand c.args.region.now s v.pass c.close_one.new.workers next.next.came.reached.list)
+      (sym c.loop-place.invariant.same) (closed_stand next.next (c.close_one.ensures.many ∙ c.loop-place.auto.threads) may.stand)
 
 pub settle-requires-clause-stand : goal.settle-requires-clause-stand
 settle-requires-clause-stand c =
     let d = (goal.at.settle-requires-clause-stand c).After-close_one in
-    let r = c.requires.rest in
-    let on = c.if-close_one.true in
-    (r.0, (next d on r.0 r.1 r.2 r.3 r.4).next.came.reached.list, then_stand d on r.0 r.1 r.2 r.3 r.4)
+    let r = c.requires.may in
+    (r.0, (next d r.0 r.1 r.2).next.came.reached.list, then_stand d r.0 r.1 r.2)
 
 pub loop-place-preserved : goal.loop-place-preserved
-loop-place-preserved c = elim c.if-close_one.branch [
-  | then-close_one w ↦
+loop-place-preserved c = record {
+  of = c.settle.ensures.of;
+  same = c.settle.ensures.scavenger ∙ c.loop-place.invariant.same;
+  closed = λ s p may.
       let d = (goal.at.loop-place-preserved c).After-close_one in
-      let on = w.if-close_one.true in
-      rw (w.threads-is) (rw (w.ledger-is) (rw (w.scavenger-is) (record {
-        of = w.settle.ensures.of;
-        same = w.settle.ensures.scavenger ∙ c.loop-place.invariant.same;
-        closed = λ s p rest stand stood.
-            let n = next d on s p rest stand stood in
-            let so = c.loop-place.invariant.closed s p rest stand stood in
-            let settled = w.settle.ensures.stand s n.next.came.reached.list (then_stand d on s p rest stand stood) in
-            subst (λ ws. ClosedSo c.args.region.now s (c.loop-place.place + 1) c.args.threads.now ws (so_far c.args.ledger.now) (so_far w.settle.new.ledger) p) (sym w.settle.ensures.same)
-            (settles_next so n c.loop-place.auto.threads (many d) stand w.settle.ensures.settled.earlier settled);
-      })))
-  | else-close_one w ↦
-      let none = c.close_one.ensures.none w.if-close_one.false in
-      rw (w.threads-is) (rw (w.ledger-is) (rw (w.scavenger-is) (record {
-        of = c.loop-place.invariant.of;
-        same = c.loop-place.invariant.same;
-        closed = λ s p rest stand stood.
-            let now = c.loop-place.threads in
-            let i = c.loop-place.place in
-            let size : length now ≡ s.threads = c.loop-place.auto.threads ∙ rest.many in
-            let lt = c.loop-place-test.true in
-            let past = none.1 in
-            subst (λ ws. ClosedSo c.args.region.now s (i + 1) c.args.threads.now ws (so_far c.args.ledger.now) (so_far c.loop-place.ledger) p) (sym none.0)
-            (settles_pass (c.loop-place.invariant.closed s p rest stand stood) rest.guarded c.loop-place.auto.threads (sym rest.many) (omega (arith, past, size)) (omega (arith, lt, rest.many))
-            (λ d. subst (λ n. (get_or now (i - n) d).keeper ≡ None) size (none.2 d)));
-      })))
-]
-
-pub returns-clause-of : goal.returns-clause-of
-returns-clause-of c = c.loop-place.invariant.of
-
-pub returns-clause-scavenger : goal.returns-clause-scavenger
-returns-clause-scavenger c = c.loop-place.invariant.same
+      let n = next d s p may in
+      let settled = c.settle.ensures.stand s n.next.came.reached.list (then_stand d s p may) in
+      subst (λ ws. ClosedSo c.args.region.now s (c.loop-place.place + 1) c.args.threads.now ws (so_far c.args.ledger.now) (so_far c.settle.new.ledger) p)
+      (sym c.settle.ensures.same) (settles_next (c.loop-place.invariant.closed s p may) n c.loop-place.auto.threads
+      (c.close_one.ensures.many ∙ c.loop-place.auto.threads) may.stand c.settle.ensures.settled.earlier settled);
+}
 
 pub returns-clause-closed : goal.returns-clause-closed
-returns-clause-closed c = λ s p rest stand stood.
-    let at : c.loop-place.place ≡ length c.args.threads.now + length c.args.threads.now = let past = c.loop-place-test.false in let end = c.loop-place.auto.place-end in omega (arith, past, end) in
+returns-clause-closed c = λ s p may.
+    let all = c.closing_actors-actors.ensures s.keepers may.rest.guarded in
+    let at : c.loop-place.place ≡ s.threads + s.keepers = omega (arith, c.loop-place-test.false, c.loop-place.auto.place-end, all, may.rest.many) in
     subst (λ i. ClosedSo c.args.region.now s i c.args.threads.now c.loop-place.threads (so_far c.args.ledger.now) (so_far c.loop-place.ledger) p) at
-    (c.loop-place.invariant.closed s p rest stand stood)
+    (c.loop-place.invariant.closed s p may)

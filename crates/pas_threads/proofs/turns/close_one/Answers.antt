@@ -1,47 +1,42 @@
-use Rattle.std.proofs.{Common.{◌≡◌, ◌+◌, ◌-◌, ◌<◌, ◌≤◌, ◌∙◌, suc, length, get_or, sym, arith}, lemmas.{Bool.false≢true, List.{set-get_or, get_or_default}}}
-use Rattle.pas_threads.{specs.{Sessions.evenly, Pairs.no_more}, proofs.{Keepers.stands_for, Closing.{has_all, thread_closes, keeper_closes}}}
+use Rattle.std.proofs.Common.{◌≡◌, ◌+◌, ◌-◌, ◌<◌, suc, length, arith}
+use Rattle.pas_threads.{specs.{Sessions.evenly, Pairs.no_more}, proofs.{Closing.{thread_closes, keeper_there, keeper_closes}, Keepers.most_keepers}}
 use Rattle.pas_threads.proofs.turns.close_one.Goals as goal
 
 pub stop-requires : goal.stop-requires
 stop-requires c =
     let r = c.requires.so_far in
     let i = c.args.place in
-    let here = r.5.each i c.index-workers-place.result (let lt = c.if-place-workers.true in omega (arith, lt, r.4)) in
-    record { rests = (r.0.profile, suc i, evenly 0, r.5.came.reached, here.thread.here) }
-
-pub returns-then-place-workers-clause-none : goal.returns-then-place-workers-clause-none
-returns-then-place-workers-clause-none c off = absurd (false≢true (sym off))
+    let here = r.4.each i c.index-workers-place.result (let lt = c.if-place-workers.true in omega (arith, lt, r.3.many)) in
+    record { rests = (r.0.profile, suc i, evenly 0, r.4.came.reached, here.thread.here) }
 
 pub returns-then-place-workers-clause-next : goal.returns-then-place-workers-clause-next
-returns-then-place-workers-clause-next c = λ on s old p guarded threads many so.
+returns-then-place-workers-clause-next c = λ s old p may so.
     let i = c.args.place in
     let d = c.index-workers-place.result in
-    let lt : i < length old = omega (arith, c.if-place-workers.true, many) in
+    let lt : i < length old = omega (arith, c.if-place-workers.true, may.many) in
     let turn = c.stop.ensures.stopped s.profile (suc i) (evenly 0) so.came.reached (so.each i d lt).thread.here in
-    thread_closes so d c.stop.new.worker threads lt many turn c.stop.ensures.empty
+    thread_closes so d c.stop.new.worker may.threads lt may.many turn c.stop.ensures.empty
 
 pub lower_one-requires : goal.lower_one-requires
 lower_one-requires c =
     let r = c.requires.so_far in
+    let may = r.3 in
     let j = c.args.place - length c.args.workers.now in
-    let one = r.5.each j c.index-workers-behind.result (omega (arith, c.if-place-workers.false, c.requires.place, r.4)) in
-    record { stands = (r.0.profile, r.0.threads + suc j, r.5.came.reached, one.keeper.of, one.keeper.waits) }
-
-pub returns-clause-none : goal.returns-clause-none
-returns-clause-none c off = search (arith, set-get_or, get_or_default) fits 400
+    let past = c.if-place-workers.false in
+    let at : c.args.place ≡ r.0.threads + j = omega (arith, past, may.threads, may.many) in
+    let has = keeper_there r.4 j c.index-workers-behind.result at (omega (arith, at, may.there)) may.guarded in
+    record { stands = (r.0.profile, r.0.threads + suc j, r.4.came.reached, has.0, has.1, has.2) }
 
 pub returns-clause-next : goal.returns-clause-next
-returns-clause-next c = λ on s old p guarded threads many so.
+returns-clause-next c = λ s old p may so.
     let i = c.args.place in
-    let now = c.args.workers.now in
-    let j = i - length now in
+    let j = i - length c.args.workers.now in
     let d = c.index-workers-behind.result in
     let past = c.if-place-workers.false in
-    let lt : j < length old = omega (arith, past, c.requires.place, many) in
-    let at : i ≡ s.threads + j = omega (arith, past, many, threads) in
-    let has = c.lower_one.ensures.has on in
+    let at : i ≡ s.threads + j = omega (arith, past, may.many, may.threads) in
+    let less : j < s.keepers = omega (arith, at, may.there) in
+    let has = keeper_there so j d at less may.guarded in
     let one = c.lower_one.ensures.one has.0 has.1 in
-    let here = so.each j d lt in
-    let all = has_all old j d has.0 lt guarded (sym (here.left (omega (arith, at))) ∙ has.1) in
-    let did = one.2 s.profile (s.threads + suc j) no_more so.came.reached (stands_for (get_or now j d).keeper has.0 has.1 here.keeper.of here.keeper.waits) in
-    keeper_closes so j d c.lower_one.new.worker has.0 one.0 threads at lt many all has.1 c.lower_one.ensures.but one.1 did
+    let did = one.2 s.profile (s.threads + suc j) no_more so.came.reached has.2 in
+    let lt : j < length old = omega (arith, less, most_keepers old may.guarded) in
+    keeper_closes so j d c.lower_one.new.worker has.0 one.0 may.threads at lt may.many less has.1 c.lower_one.ensures.but one.1 did

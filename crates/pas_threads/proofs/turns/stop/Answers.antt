@@ -26,6 +26,3 @@ returns-clause-stopped c = λ f k later p at.
       requests = refl;
       keeper = refl;
     }
-
-pub returns-clause-empty : goal.returns-clause-empty
-returns-clause-empty c = c.end.ensures.empty

@@ -1,7 +1,7 @@
 use Rattle.std.proofs.{Common.{length, map, ap, arith}, lemmas.List.length-map}
 use Rattle.pas_trace.{specs.Plans.ops_of, proofs.Keepers.plan_actors}
 use Rattle.pas_acts.proofs.PlanFacts.{plan_valid, plan_phases, plan_operate}
-use Rattle.pas_threads.proofs.StartAndEnd.{session_of, handed, all_back, all_slots, all_of_region, shows, replayed_so}
+use Rattle.pas_threads.proofs.StartAndEnd.{session_of, handed, all_of_region, shows, replayed_so}
 use Rattle.pas_threads.proofs.whole.on_threads_with_rooms.Goals as goal
 
 pub replay-team-requires-clause-phases : goal.replay-team-requires-clause-phases
@@ -15,22 +15,12 @@ replay-team-requires-clause-stands g c =
     let start = handed c.args.out.now c.as_slice.result.now c.requires.plan.2 c.requires.kit c.as_slice.ensures c.requires.empty c.requires.room in
     λ lifetimes outlive. (session_of c.args.plan.now, start.0, start.1)
 
-pub passes_of-passes-requires-clause-places : goal.passes_of-passes-requires-clause-places
-passes_of-passes-requires-clause-places g c =
+pub passes_of-passes-requires-clause-stands : goal.passes_of-passes-requires-clause-stands
+passes_of-passes-requires-clause-stands g c =
+    let plan = c.args.plan.now in
     let start = handed c.args.out.now c.as_slice.result.now c.requires.plan.2 c.requires.kit c.as_slice.ensures c.requires.empty c.requires.room in
-    let many = all_slots (c.replay-team.ensures.replayed (session_of c.args.plan.now) start.0 start.1).stands in
-    omega (arith, many, plan_actors c.args.plan.now, c.requires.kit.place)
-
-pub passes_of-passes-requires-clause-first : goal.passes_of-passes-requires-clause-first
-passes_of-passes-requires-clause-first g c =
-    let start = handed c.args.out.now c.as_slice.result.now c.requires.plan.2 c.requires.kit c.as_slice.ensures c.requires.empty c.requires.room in
-    let has = (c.replay-team.ensures.replayed (session_of c.args.plan.now) start.0 start.1).stands.scavenger.has in
-    (has.pass, has.present)
-
-pub passes_of-passes-requires-clause-back : goal.passes_of-passes-requires-clause-back
-passes_of-passes-requires-clause-back g c =
-    let start = handed c.args.out.now c.as_slice.result.now c.requires.plan.2 c.requires.kit c.as_slice.ensures c.requires.empty c.requires.room in
-    all_back (c.replay-team.ensures.replayed (session_of c.args.plan.now) start.0 start.1).stands
+    let replayed = c.replay-team.ensures.replayed (session_of plan) start.0 start.1 in
+    (c.args.kit.region, session_of plan, replayed.end, replayed.stands, omega (arith, plan_actors plan, c.requires.kit.place))
 
 pub close_settled-requires-clause-passes : goal.close_settled-requires-clause-passes
 close_settled-requires-clause-passes g c =

@@ -1,7 +1,7 @@
-use Rattle.std.proofs.Common.{◌≡◌, ◌∙◌, ◌∷◌, ◌+◌, Some, ap, sym, subst}
-use Rattle.pas_shared.specs.{Benches.row_on, declared.{bench.{Bench.Bench, Member.Member}, bench_desk.BenchHome.BenchHome, region.SharedRegion.SharedRegion}}
-use Rattle.pas_threads.{specs.{Pairs.MayDoPhase, Seats.{seated_actors, IsAnother, KeeperSits, PairRose, PairSits}}, proofs.Benched.{sat_at, begins, keeper_may}}
-use Rattle.pas_threads.proofs.{Benched.{keeper_other, actors_are, pair_did}, workers.perform.{Given.Over, Goals.After-bench_desk-desk}}
+use Rattle.std.proofs.Common.{◌≡◌, ◌∙◌, ◌+◌, Some, ap, sym}
+use Rattle.pas_shared.specs.declared.bench_desk.BenchHome.{BenchHome}
+use Rattle.pas_threads.{specs.{Pairs.MayDoPhase, Seats.PairSits}, proofs.{Benched.{begins, pair_may, pair_did}, workers.perform.Given.Over}}
+use Rattle.pas_threads.proofs.workers.perform.Goals.{After-bench_desk-desk}
 use Rattle.pas_threads.proofs.workers.perform.Goals as goal
 
 -- both sit at the desk, as they sat down on its bench
@@ -9,7 +9,7 @@ module _ (g : Over) (c : After-bench_desk-desk g) where
   -- The thread and its keeper sit at their bench.
   sits : PairSits c.bench_desk-desk.result.region.now c.in-Some.pass c.take-2.result c.bench_desk-desk.result.place.bench c.bench_desk-desk.result.place.member
       c.sit_down-bench.result.keeper
-  sits = sat_at c.bench_desk-desk.result c.bench_desk-desk.ensures.region c.bench_desk-desk.ensures.bench c.bench_desk-desk.ensures.member c.sit_down-bench.ensures.sits
+  sits = rw (c.bench_desk-desk.ensures.region, c.bench_desk-desk.ensures.bench, c.bench_desk-desk.ensures.member) c.sit_down-bench.ensures.sits
 
   has_pass : c.args.worker.now.pass ≡ Some c.in-Some.pass
   has_pass = sym c.take.ensures.value ∙ c.in-Some.is
@@ -20,40 +20,19 @@ work-requires-clause-stands g c =
     let d = (goal.at.work-requires-clause-stands g c).After-bench_desk-desk in
     (m.profile, m.threads + m.thread, m.later, m.more, m.progress, begins c.bench_desk-desk.result (has_pass g d) c.take-2.ensures.value (sits g d) m)
 
-pub rise-bench-requires-clause-keeper : goal.rise-bench-requires-clause-keeper
-rise-bench-requires-clause-keeper g c =
+pub rise-bench-requires : goal.rise-bench-requires
+rise-bench-requires g c =
     let m = c.requires.may in
-    let d = (goal.at.rise-bench-requires-clause-keeper g c).After-bench_desk-desk in
+    let d = (goal.at.rise-bench-requires g c).After-bench_desk-desk in
     let desk = c.bench_desk-desk.result in
     let there = c.work.new.keeper.keeper in
     let start = begins desk (has_pass g d) c.take-2.ensures.value (sits g d) m in
     let works = c.work.ensures.works m.profile (m.threads + m.thread) m.later m.more m.progress start in
     let here = ap (λ (h : BenchHome). h.region) c.work.ensures.home ∙ c.bench_desk-desk.ensures.region in
-    subst (λ (z : SharedRegion × Bench). KeeperSits z.0 z.1 there) (λ i. (here i, sym c.into_parts-bench.ensures.bench i))
-    (keeper_may desk (has_pass g d) c.take-2.ensures.value (sits g d) m c.work.new.desk _ there works c.work.ensures.home)
-
-pub rise-bench-requires-clause-apart : goal.rise-bench-requires-clause-apart
-rise-bench-requires-clause-apart g c =
-    let m = c.requires.may in
-    let d = (goal.at.rise-bench-requires-clause-apart g c).After-bench_desk-desk in
-    let desk = c.bench_desk-desk.result in
-    let there = c.work.new.keeper.keeper in
-    let start = begins desk (has_pass g d) c.take-2.ensures.value (sits g d) m in
-    let works = c.work.ensures.works m.profile (m.threads + m.thread) m.later m.more m.progress start in
-    subst (λ (x : Member). IsAnother x.actor there) (sym c.into_parts-bench.ensures.member)
-    (keeper_other desk (has_pass g d) c.take-2.ensures.value (sits g d) m c.work.new.desk _ there works c.work.ensures.home)
-
-pub rise-bench-requires-clause-actors : goal.rise-bench-requires-clause-actors
-rise-bench-requires-clause-actors g c =
-    let m = c.requires.may in
-    let d = (goal.at.rise-bench-requires-clause-actors g c).After-bench_desk-desk in
-    let desk = c.bench_desk-desk.result in
-    let there = c.work.new.keeper.keeper in
-    let start = begins desk (has_pass g d) c.take-2.ensures.value (sits g d) m in
-    let works = c.work.ensures.works m.profile (m.threads + m.thread) m.later m.more m.progress start in
-    subst (λ (z : Bench × Member). (row_on z.0).actors ≡ z.1.actor ∷ seated_actors there)
-    (λ i. (sym c.into_parts-bench.ensures.bench i, sym c.into_parts-bench.ensures.member i))
-    (actors_are desk (has_pass g d) c.take-2.ensures.value (sits g d) m c.work.new.desk _ there works c.work.ensures.home)
+    record {
+      may = rw (sym here, c.into_parts-bench.ensures.bench, c.into_parts-bench.ensures.member)
+          (pair_may desk (has_pass g d) c.take-2.ensures.value (sits g d) m c.work.new.desk _ there works c.work.ensures.home);
+    }
 
 pub returns : goal.returns
 returns g c = record {
@@ -66,8 +45,7 @@ returns g c = record {
         let there = c.work.new.keeper.keeper in
         let out = c.rise-bench.result in
         let works = c.work.ensures.works f (threads + k) later more p (begins desk (has_pass g d) c.take-2.ensures.value (sits g d) m) in
-        let rose = subst (λ (z : Bench × Member). PairRose c.args.region.now z.0 z.1 there out.0 out.1 out.2)
-        (λ i. (c.into_parts-bench.ensures.bench i, c.into_parts-bench.ensures.member i)) c.rise-bench.ensures.rose in
+        let rose = rw (c.into_parts-bench.ensures.bench, c.into_parts-bench.ensures.member) at c.rise-bench.ensures.rose in
         let did = pair_did desk (has_pass g d) c.take-2.ensures.value (sits g d) m c.work.new.desk _ there works c.work.ensures.home out.0 out.1 out.2 rose in
         record { did = did.0; of = did.1; left = did.2 };
   };

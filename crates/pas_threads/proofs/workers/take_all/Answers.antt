@@ -1,6 +1,6 @@
-use Rattle.std.proofs.{Common.{◌≡◌, length, get_or, inr, refl, sym, ◌∙◌, subst, arith, length-set, get_or-set_other}, lemmas.List.get_or_default}
-use Rattle.pas_answers.specs.Names.{names_held, block_named}
-use Rattle.pas_acts.specs.NameBooks.{requests_in, names_of, known_in, AreWithin}
+use Rattle.std.proofs.{Common.{◌≡◌, length, get_or, inr, refl, ◌∙◌, subst, arith, length-set, get_or-set_other}, lemmas.List.get_or_default}
+use Rattle.pas_answers.specs.Names.{block_named}
+use Rattle.pas_acts.specs.NameBooks.{known_in}
 use Rattle.pas_threads.{specs.declared.workers.Worker.Worker, proofs.Performed.{TakenUpTo, taken_more, with_requests, emptied_more}}
 use Rattle.pas_threads.proofs.workers.take_all.Goals as goal
 
@@ -19,8 +19,7 @@ take-requires c =
     let e = c.index-workers-index.result in
     let lt = c.loop-index-test.true in
     record {
-      within = subst (λ (w : Worker). AreWithin (names_held c.loop-index.book.names) (names_of (requests_in w.requests))) (sym (c.loop-index.invariant.left i e (omega arith)))
-          (subst (λ m. AreWithin m (names_of (requests_in (get_or c.args.workers.now i e).requests))) (sym c.loop-index.invariant.room) (c.requires.within i e lt).within);
+      within = rw (c.loop-index.invariant.left i e (omega arith), c.loop-index.invariant.room) (c.requires.within i e lt).within;
     }
 
 pub loop-index-preserved : goal.loop-index-preserved

@@ -1,7 +1,7 @@
 use Rattle.std.proofs.Common.{◌∙◌, Some, sym, subst}
 use Rattle.pas_shared.specs.Benches.{standing_on, MaySitOn}
 use Rattle.pas_threads.{specs.{Pairs.kept_seated, declared.keeper.Seated.Seated}, proofs.Benched.{lent_at, thread_after, tried_at}}
-use Rattle.pas_acts.specs.Keepers.{MayTryAt, TriesAt}
+use Rattle.pas_acts.specs.Keepers.{TriesAt}
 use Rattle.pas_threads.proofs.keeper.BesideTriesBenchDesk.try_guarded.Goals as goal
 
 pub replace-member-requires : goal.replace-member-requires
@@ -10,8 +10,7 @@ replace-member-requires c =
     let desk = c.args.desk.now in
     let lent = c.replace-thread.new.self in
     let seated = c.in-Some.seated in
-    let may = subst (λ o. MayTryAt r.0 r.1 c.args.size (kept_seated desk.region.now desk.place.bench o) r.2 r.3)
-    (sym c.take.ensures.value ∙ c.in-Some.is) r.6 in
+    let may = rw (sym c.take.ensures.value ∙ c.in-Some.is) at r.6 in
     let tries = c.try_guarded-block.ensures.tries r.0 r.1 r.2 r.3
     (lent_at desk lent seated c.replace-thread.ensures.bench c.replace-thread.ensures.member may) in
     subst (MaySitOn c.try_guarded-block.new.desk.region.now c.try_guarded-block.new.desk.place.bench) (sym c.replace-thread.ensures.risen)
@@ -25,7 +24,7 @@ returns-clause-tries c = λ f k later p may stood other.
     let seated = c.in-Some.seated in
     let keeper = sym c.take.ensures.value ∙ c.in-Some.is in
     let after : Seated = record { member = c.replace-member.result; book = c.try_guarded-block.new.book; out = c.try_guarded-block.new.out } in
-    let here = subst (λ o. MayTryAt f k c.args.size (kept_seated desk.region.now desk.place.bench o) later p) keeper may in
+    let here = rw keeper at may in
     let tries = c.try_guarded-block.ensures.tries f k later p (lent_at desk lent seated c.replace-thread.ensures.bench c.replace-thread.ensures.member here) in
     subst (λ o. TriesAt f k (record { name = c.args.name; heap = c.args.heap; size = c.args.size; align = c.args.align }) c.try_guarded-block.result (standing_on desk.place.bench desk.place.member) (standing_on back.place.bench back.place.member) (kept_seated desk.region.now desk.place.bench o) (kept_seated back.region.now back.place.bench (Some after)) later p) (sym keeper)
     (tried_at desk lent c.try_guarded-block.new.desk seated c.replace-thread.ensures.region c.replace-thread.ensures.bench c.replace-thread.ensures.member tries c.try_guarded-block.ensures.home stood other
