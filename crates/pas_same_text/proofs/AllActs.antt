@@ -1,14 +1,16 @@
 -- ALL ACTS of a replay: who acts in the replay of a plan, and that what is asked for is admitted; the first state of the text, which is that of a replay that did nothing
 -- yet; and the text of a state that is the replay's, which is what is written of it.
-use Rattle.pas_same_text.proofs.Common.{nat_tests, none-some, AllByRecursion, filter, IsValid, IsAdmitted, route_in, directory_read, Route, Directory, Event}
-use Rattle.pas_same_text.proofs.Common.{Profile, Word, all_both, read-deed_word_of, directory_from_profile, Act, numbers_from, request_in, IsPlanOf, Request}
-use Rattle.pas_same_text.proofs.Common.{Op, Plan, plan_actors, IsKnown, IsKept, IsThreadOf, IsActOf, AreSeated, IsSame, IsBetween, none_of_zero, deed_in, Whole}
-use Rattle.pas_same_text.proofs.Common.{word_after, visible, Legal, word_of_deed, IsRightInOnePlace, deed_of, directory_is_of, right_in_one_place, legal_before}
-use Rattle.pas_same_text.proofs.Common.{Marked, Progress, indexes_after, AreAtRest, phases_of, region_of, keepers_of, World, cache_in, each, opened, acts_on}
-use Rattle.pas_same_text.proofs.{Common.{replayed, order_text, text_of, Indexes, no_ranges, Record}, EntrySteps.read_deed, CacheLists.{act_many, start_indexes}}
-use Rattle.pas_same_text.proofs.{OneAct.act_same, SeatedActs.{seated_next, stamped_kept}, KeepersRest.between_from, UsableBlocks.act_usable}
-use Rattle.pas_same_text.{proofs.TextOfBytes.{bytes_told, region_same}, specs.Known.{IsAdmittedWhat, IsGuardedWhat, IsPlanned, ArePlanned, IsCarried, AreKnown}}
-use Rattle.pas_same_text.specs.{Acts.IsListed, Told.IsTold, State.no_cache, Reports.{offered_by, parked_by}}
+use Rattle.pas_same_text.proofs.Common.{text_for, IsTold, nat_tests, none-some, AllByRecursion, filter, IsValid, IsAdmitted, route_in, directory_read, Route}
+use Rattle.pas_same_text.proofs.Common.{Directory, Event, Profile, Word, all_both, read-deed_word_of, directory_from_profile, Act, numbers_from, request_in}
+use Rattle.pas_same_text.proofs.Common.{IsPlanOf, Request, Op, Plan, plan_actors, IsKnown, IsKept, IsThreadOf, AreSeated, IsSame, IsBetween, none_of_zero}
+use Rattle.pas_same_text.proofs.Common.{deed_in, Whole, word_after, visible, Legal, word_of_deed, IsRightInOnePlace, deed_of, directory_is_of}
+use Rattle.pas_same_text.proofs.Common.{right_in_one_place, legal_before, Marked, Progress, indexes_after, AreAtRest, phases_of, keepers_of, World, cache_in}
+use Rattle.pas_same_text.proofs.{Common.{each, acts_on, replayed, text_of, Indexes, no_ranges, Record}, TextOfBytes.{replay_told, its_text}}
+use Rattle.pas_same_text.proofs.{CacheLists.{none_yet, act_many}, EntrySteps.read_deed, OneAct.act_same, SeatedActs.{seated_next, stamped_kept}}
+use Rattle.pas_same_text.{proofs.{KeepersRest.between_from, UsableBlocks.act_usable}, specs.Known.{IsAdmittedWhat, IsGuardedWhat, IsPlanned, ArePlanned}}
+use Rattle.pas_same_text.specs.{Known.{IsCarried, AreKnown}, Acts.IsListed, State.no_cache, Reports.{offered_by, parked_by}, Order.{opened, order_text}}
+use Rattle.pas_answers.specs.{Replays.{region_of, at_start, threads_of, acts_of_plan, IsReplay}, Indexes.indexes_after_all, Reaching.Reaches, Rests.AllAtRest}
+use Rattle.pas_answers.{specs.Ways.InOrder, proofs.{Reached.was_so, EachAct.{all_front, all_back, all_of, all_of_chore}}}
 use Rattle.std.proofs.Common.{◌≡◌, ◌≢◌, ℕ, zero, suc, ◌+◌, ◌<◌, ◌≤◌, Bool, List, [], ◌∷◌, ◌++◌, map, Option, Some, MatchOption, sym, arith, not, false, length}
 use Rattle.std.proofs.Common.{◌-◌, codes, None, inl, inr, refl, ap, ◌∙◌, subst}
 use Rattle.pas_profile.proofs.Sizes.{large_for}
@@ -18,8 +20,6 @@ use Rattle.pas_trace.specs.{Asked.{request_of, keeper_of, keeper_in}, EveryPlan.
 use Rattle.pas_trace.{specs.{EveryPlan.{AreSound, AreKept}, Plans.ops_of, declared.plan.{Chore.Chore, Task.Task, Work.Work}}, proofs.EveryPlan.every_plan}
 use Rattle.pas_core.specs.Rights.{parked_bit}
 use Rattle.pas_report.specs.Reports.{machine_pages, report_text}
-use Rattle.pas_answers.specs.{Indexes.indexes_after_all, Reaching.Reaches, Rests.AllAtRest, Ways.InOrder, Replays.{at_start, threads_of, acts_of_plan}}
-use Rattle.pas_answers.{specs.Replays.IsReplay, proofs.{Reached.was_so, EachAct.{all_front, all_back, all_of, all_of_chore}}}
 use Rattle.pas_records.specs.{Lines.lines_of, Marks.{marks_after, offered_after}, Rests.AreTrueMarks}
 
 -- ---- several numbers, and acts of each of several actors
@@ -38,11 +38,8 @@ module _ (plan : Plan) where
   abbrev AreOwn : List Act → Type 0
   AreOwn acts = ArePlanned (threads_of plan) (region_of plan) acts
 
-  all_own : AllByRecursion IsOwn (numbers_from 1 (threads_of plan))
-  all_own = all_from IsOwn 1 (threads_of plan) (λ j low high. (low, omega (arith, high)))
-
   own_where : (chosen : ℕ → Bool) → AllByRecursion IsOwn (threads_where chosen (threads_of plan))
-  own_where chosen = all_chosen IsOwn chosen (numbers_from 1 (threads_of plan)) all_own
+  own_where chosen = all_chosen IsOwn chosen (numbers_from 1 (threads_of plan)) (all_from IsOwn 1 (threads_of plan) (λ j low high. (low, omega (arith, high))))
 
   -- ---- the acts of an operation
   chore_own : (idle : List ℕ) (chore : Chore) → AllByRecursion IsOwn idle → AreOwn (acts_of_chore idle chore)
@@ -108,7 +105,8 @@ module _ (plan : Plan) where
       let keepers : List ℕ = numbers_from (threads_of plan + 1) (keepers_of plan) in
       let own : Act → Type 0 = IsPlanned (threads_of plan) (region_of plan) in (
         (tt, tt),
-        all_both own (map Ends (numbers_from 1 (threads_of plan))) (map Lowers keepers) (all_of own IsOwn Ends _ (λ k is. (is, tt)) all_own)
+        all_both own (map Ends (numbers_from 1 (threads_of plan))) (map Lowers keepers)
+            (all_of own IsOwn Ends _ (λ k is. (is, tt)) (all_from IsOwn 1 (threads_of plan) (λ j low high. (low, omega (arith, high)))))
             (all_of own _ Lowers keepers (λ k is. (is, tt))
             (all_from _ _ _ (λ j low high. (omega (arith, low), omega (arith, high, (plan_actors plan)))))),
       )
@@ -151,10 +149,6 @@ opening_caches_are_empty (suc n) from k = let ih = opening_caches_are_empty n (f
 module _ (f : Profile) (n : ℕ) (few : n ≤ f.threads) where
   abbrev first : World
   first = opened n f.heaps
-
-  -- The text's opened region is the state of a replay that did nothing.
-  start_same : IsSame f at_start first
-  start_same = search (arith, none_of_zero, many_numbers, opening_caches_are_empty)
 
 -- ==== THE END
 pages_told : (es : List Event) (marks other : ℕ → Marked) (n : ℕ) → ((page : ℕ) → marks page ≡ other page) → machine_pages es marks n ≡ machine_pages es other n
@@ -204,10 +198,6 @@ module _ (f : Profile) (p : Progress) (w : World) (valid : IsValid f) (legal : L
 
 -- ==== ACTS ONE AFTER THE OTHER keep the text, and a replay of them comes to what is written of it.
 -- ---- one act
--- a thread's cache is in the list where each has one there
-is_listed : (threads : ℕ) (f : Profile) (act : Act) (w : World) → IsActOf threads f act → threads ≤ length w.caches → IsListed w act
-is_listed threads f act w own many = search arith
-
 -- what is so between two acts is so after the next
 carried_on : (threads : ℕ) (f : Profile) (act : Act) (p p' : Progress) (w : World) (indexes : Indexes) (known : IsKnown threads f act p p' w indexes)
     → threads ≤ length w.caches → IsKept threads f act p p' w indexes known
@@ -227,9 +217,6 @@ first_rest : (threads : ℕ) (f : Profile) (acts : List Act) (p p' : Progress) (
 first_rest threads f [] p p' is rests = rests
 first_rest threads f (act ∷ acts) p p' is rests = rests.0
 
-first_legal : (f : Profile) (acts : List Act) (p p' : Progress) → Reaches f acts p p' → Legal f p'.list → Legal f p.list
-first_legal f acts p p' is legal = was_so f (Legal f) (legal_before f) acts p p' is legal
-
 -- What is so between two acts is so after several acts of a plan, of which all is known that a replay in order knows.
 pub acts_carried : (threads : ℕ) (f : Profile) (acts : List Act) (p p' : Progress) (is : Reaches f acts p p') (w : World) (indexes : Indexes)
     → ArePlanned threads f acts → AreKnown threads f acts p p' is indexes → IsCarried threads f p w indexes
@@ -237,12 +224,14 @@ pub acts_carried : (threads : ℕ) (f : Profile) (acts : List Act) (p p' : Progr
 acts_carried threads f [] p p' is w indexes planned known carried = subst (λ (q : Progress). IsCarried threads f q w indexes) (sym is) carried
 acts_carried threads f (act ∷ acts) p p' is w indexes planned known carried =
     let next : Progress = is.0 in
-    let legal : Legal f next.list = first_legal f acts next p' is.2 known.legal in
-    let between : IsBetween f p = between_from threads f p known.rests.0 carried.seated (first_legal f (act ∷ acts) p p' is known.legal) in
+    let legal : Legal f next.list = was_so f (Legal f) (legal_before f) acts next p' is.2 known.legal in
+    let between : IsBetween f p =
+    between_from threads f p known.rests.0 carried.seated (was_so f (Legal f) (legal_before f) (act ∷ acts) p p' is known.legal) in
     let seated : AreSeated threads f next = seated_next threads f act p next known.valid planned.0.0 between carried.seated is.1 legal in
     let one : IsKnown threads f act p next w indexes = record {
       planned = planned.0;
-      taken = assumption (between_from threads f next (first_rest threads f acts next p' is.2 known.rests.1) seated legal, is_listed threads f act w planned.0.0 carried.many);
+      taken = let is_listed : IsListed w act = search arith in
+          assumption (between_from threads f next (first_rest threads f acts next p' is.2 known.rests.1) seated legal, is_listed);
       seated = carried.seated;
       usable = carried.usable;
       stamped = carried.stamped;
@@ -258,16 +247,16 @@ acts_carried threads f (act ∷ acts) p p' is w indexes planned known carried =
 pub start_carried : (threads n : ℕ) (f : Profile) → threads ≤ n → n ≤ f.threads
     → IsCarried threads f at_start (opened n f.heaps) (no_ranges f.heaps)
 start_carried threads n f each few = record {
-  same = start_same f n few;
+  same = search (arith, none_of_zero, many_numbers, opening_caches_are_empty);
   many = omega (arith, each, many_numbers n 1);
   seated = search arith;
   usable = record { usable = λ address b lives g of d is. absurd (none-some d is) };
   stamped = record { kept = tt; stamped = λ k page. refl };
-  indexes_are = start_indexes n f.heaps;
+  indexes_are = none_yet f.heaps 1;
 }
 
 -- ---- A REPLAY of a plan, by so many caches: those of its threads at least, and none behind those of its keepers
-told_by : (n : ℕ) (text : List ℕ) (plan : Plan) (whole : Whole) (records : List Record) → threads_of plan ≤ n → n ≤ (region_of plan).threads
+pub told_by : (n : ℕ) (text : List ℕ) (plan : Plan) (whole : Whole) (records : List Record) → threads_of plan ≤ n → n ≤ (region_of plan).threads
     → IsPlanOf text plan → IsReplay InOrder plan whole records
     → IsTold plan whole records (each (acts_on (region_of plan)) (acts_of_plan plan) (opened n (region_of plan).heaps))
 told_by n text plan whole records some few read is =
@@ -286,12 +275,6 @@ told_by n text plan whole records some few read is =
       events_are = same.pages.events ∙ ap visible (sym is.one_order);
     }
 
--- .. by one for each actor of its region
-pub plan_told : (text : List ℕ) (plan : Plan) (whole : Whole) (records : List Record) → IsPlanOf text plan → IsReplay InOrder plan whole records
-    → IsTold plan whole records (each (acts_on (region_of plan)) (acts_of_plan plan) (opened (region_of plan).threads (region_of plan).heaps))
-plan_told text plan whole records read is =
-    told_by (region_of plan).threads text plan whole records (omega (arith, (plan_actors plan))) (omega arith) read is
-
 -- .. and by one for each thread, which is the replay of the text: what an act comes to doesn't go by how many actors there are
 pub own_told : (text : List ℕ) (plan : Plan) (whole : Whole) (records : List Record) → IsPlanOf text plan → IsReplay InOrder plan whole records
     → IsTold plan whole records (replayed plan.profile (keepers_of plan) (phases_of plan))
@@ -301,12 +284,5 @@ own_told text plan whole records read is =
 -- .. so the text of the bytes, of which this is the plan, is what is written
 pub order_told : (bytes : List ℕ) (plan : Plan) (whole : Whole) (records : List Record) → IsPlanOf bytes plan → IsReplay InOrder plan whole records
     → order_text bytes ≡ Some (lines_of records ++ report_text (region_of plan) (visible whole) (marks_after whole))
-order_told bytes plan whole records read is = bytes_told bytes plan read ∙ ap (λ (text : List ℕ). Some text) (own_told bytes plan whole records read is).text
-
--- .. and of a plan without keepers, in the region of its replays, where its threads alone are actors
-pub replay_told : (text : List ℕ) (plan : Plan) (whole : Whole) (records : List Record) → IsPlanOf text plan → (is : IsReplay InOrder plan whole records)
-    → keepers_of plan ≡ 0
-    → IsTold plan whole records (replayed (region_of plan) (keepers_of plan) (phases_of plan))
-replay_told text plan whole records read is none =
-    subst (λ (f : Profile). IsTold plan whole records (replayed f (keepers_of plan) (phases_of plan))) (region_same plan none)
-    (own_told text plan whole records read is)
+order_told bytes plan whole records read is =
+    ap text_for read.read ∙ replay_told its_text bytes plan read ∙ ap (λ (text : List ℕ). Some text) (own_told bytes plan whole records read is).text

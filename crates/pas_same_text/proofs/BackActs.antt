@@ -1,16 +1,16 @@
 -- THE ACTS THAT GIVE BACK: flushes, stops, stops of idle threads, the close, and frees into any log.
 use Rattle.std.proofs.Common.{◌≡◌, ℕ, ◌+◌, ◌≤◌, nat_le, Bool, true, false, if◌then◌else◌, List, [], ◌∷◌, ◌++◌, length, Option, None, Some, inl, inr, refl, ap}
 use Rattle.std.proofs.Common.{sym, ◌∙◌, subst, append_assoc, arith, append-nil, eq-eqb, ◌==◌}
-use Rattle.pas_trace.specs.declared.plan.What.TheVariants.{Flush, Stop}
-use Rattle.pas_answers.specs.Answers.{suits, IsFlushed, after_stop}
+use Rattle.pas_trace.specs.declared.plan.What.TheVariants.{Flush, Stop, FreeSized, RawSized}
+use Rattle.pas_answers.specs.Answers.{suits, after_stop}
 use Rattle.pas_same_text.{specs.{State.names_it, Passes.stops_idle}, proofs.CacheLists.{same_own, same_with, same_again, same_many, flushes_keep}}
 use Rattle.pas_same_text.proofs.{StopActs.{flush_same, stop_same}, SmallActs.{unchanged, pages_next, says_same, cache_state, after_with, said_same}}
 use Rattle.pas_same_text.proofs.{SmallActs.{page_inside, freed_is, refused_same, freed_same, asks, name_freed}, Common.{false≢true, nat_tests, IsValid, Block}}
 use Rattle.pas_same_text.proofs.Common.{Name, Profile, events_by, part, visible, View, Made, Entry, TakesEntry, EmptiesFull, Cached, Guard, Record}
-use Rattle.pas_same_text.proofs.Common.{Said as TheSaid, Said, Act, IsThread, Free, FreeSized, Raw, RawSized, Progress, Named, named, Answer, having}
-use Rattle.pas_same_text.proofs.Common.{IsRemadeBy, IsFreed, IsFreedBy, IsStopped, standing_for, records_of, with_records, with_steps, after_answer, room_noted}
-use Rattle.pas_same_text.proofs.Common.{with_cache as with_cached, World, Cache, cache_of, set_cache, log_of, says, remakes, IsSame, IsSameCache, adds, frees}
-use Rattle.pas_same_text.proofs.Common.{frees_named, flushes, stops, IsResting, IsBetween, IsTaken, AreBlocksUsable, HasUsableBlocks, StaysSameWhere}
+use Rattle.pas_same_text.proofs.Common.{Said as TheSaid, Said, Act, IsThread, Free, Raw, Progress, Named, named, Answer, having, IsRemadeBy, IsFreed, IsStopped}
+use Rattle.pas_same_text.proofs.Common.{records_of, with_records, with_steps, after_answer, with_cache as with_cached, World, Cache, cache_of, set_cache}
+use Rattle.pas_same_text.proofs.Common.{log_of, says, remakes, IsSame, IsSameCache, adds, frees, flushes, stops, IsResting, IsBetween, IsTaken, AreBlocksUsable}
+use Rattle.pas_same_text.proofs.Common.{HasUsableBlocks, StaysSameWhere}
 
 -- ---- a flush, and a stop
 module _ {f : Profile} {k : ℕ} {act : Act} {p p' : Progress} {w : World} (usable : HasUsableBlocks p) (thread : IsThread f k) (listed : k ≤ length w.caches)
@@ -18,19 +18,6 @@ module _ {f : Profile} {k : ℕ} {act : Act} {p p' : Progress} {w : World} (usab
   -- After steps and records of the actor the replay is between two pieces still.
   stepped : (steps : List Made) (c : Cached) (rs : List Record) → p' ≡ with_records (with_steps p k steps c) rs → IsBetween f (with_steps p k steps c)
   stepped steps c rs to = let b = subst (IsBetween f) to taken.after in record { legal = b.legal; rest = b.rest }
-
-  -- the answer says nothing and names nothing
-  answered : (a : Answer) → a.said ≡ None → a.names ≡ p.names → p' ≡ after_answer p k a
-      → p' ≡ with_records (with_steps p k a.steps a.cache) (records_of (events_by k (part k p.list) a.steps) ++ [])
-  answered a said names reached = search arith
-
-  -- A flush of the log is the text's flush.
-  flushed : (a : Answer) → IsFlushed k (p.caches k) a.cache a.steps → a.said ≡ None → a.names ≡ p.names → p' ≡ after_answer p k a → IsSame f p' (flushes f k w)
-  flushed a is said names reached =
-      let rs : List Record = records_of (events_by k (part k p.list) a.steps) in
-      let to = answered a said names reached in
-      rw (to, append-nil rs)
-      (flush_same f k p w a.steps a.cache taken.valid thread listed taken.before taken.same usable is.empties is.cache (stepped a.steps a.cache (rs ++ []) to))
 
   stopped_all : (steps : List Made) (c' : Cached) (rs : List Record) → IsStopped k (p.caches k) c' steps → p' ≡ with_records (with_steps p k steps c') rs
       → IsSame f (with_records (with_steps p k steps c') (records_of (events_by k (part k p.list) steps))) (stops f k w)
@@ -56,14 +43,18 @@ module _ {f : Profile} {k : ℕ} {act : Act} {p p' : Progress} {w : World} (usab
 -- A flush leads the text to the replay's state, where live blocks lie on usable grains.
 pub flush_act : (f : Profile) (line k : ℕ) → IsThread f k → StaysSameWhere HasUsableBlocks f (asks line k Flush)
 flush_act f line k is p p' w usable taken =
-    flushed usable is taken.listed taken taken.advances.0 taken.advances.1.0 taken.advances.1.1 taken.advances.1.2 taken.advances.2
+    let a = taken.advances.0 in let rs : List Record = records_of (events_by k (part k p.list) a.steps) in
+    let to : p' ≡ with_records (with_steps p k a.steps a.cache) (records_of (events_by k (part k p.list) a.steps) ++ []) = search arith in
+    rw (to, append-nil rs)
+    (flush_same f k p w a.steps a.cache taken.valid is taken.listed taken.before taken.same usable taken.advances.1.0.empties taken.advances.1.0.cache
+    (stepped usable is taken.listed taken a.steps a.cache (rs ++ []) to))
 
 -- A thread's stop leads the text to the replay's state, where live blocks lie on usable grains.
 pub stop_act : (f : Profile) (line k : ℕ) → IsThread f k → StaysSameWhere HasUsableBlocks f (asks line k Stop)
 stop_act f line k is p p' w usable taken =
     let a : Answer = taken.advances.0 in
     stopped_plain usable is taken.listed taken a.steps a.cache taken.advances.1.0
-    (answered usable is taken.listed taken a taken.advances.1.1 taken.advances.1.2 taken.advances.2)
+    (search arith)
 
 -- A thread's end at the close leads the text to the replay's state, where live blocks lie on usable grains.
 pub end_act : (f : Profile) (k : ℕ) → IsThread f k → StaysSameWhere HasUsableBlocks f (Act.Ends k)
@@ -126,9 +117,6 @@ module _ (f : Profile) (k : ℕ) (entry : Entry) (p : Progress) (w : World) (c' 
     abbrev v : World
     v = flushes f k w
 
-    listed_then : k ≤ length v.caches
-    listed_then = omega (arith, listed, same_many w v (flushes_keep f k w))
-
     -- The emptied cache is the text's.
     own : IsSameCache emptied (cache_of v k)
     own = subst (λ (d : Cached). IsSameCache d (cache_of v k)) (same_own p.caches k emptied) (flushed_first.caches.each k thread)
@@ -140,24 +128,20 @@ module _ (f : Profile) (k : ℕ) (entry : Entry) (p : Progress) (w : World) (c' 
     cache_is : c' ≡ record c { log = entry ∷ []; noted = c'.noted }
     cache_is = takes.cache ∙ ap (λ (es : List Entry). record c { log = es; noted = c'.noted }) (takes.logs.log_is ∙ ap (λ (es : List Entry). es ++ entry ∷ []) both.1)
 
-    new_same : IsSameCache c' new
-    new_same = rw cache_is (record { locals = own.locals; log = ap (λ (es : List Entry). es ++ entry ∷ []) own.log; noted = own.noted; idle_since = own.idle_since })
-
     -- A free that fits the log is the text's entry more.
     added : IsSame f (after_with p k steps None p.names c') (adds k entry v)
     added =
         let pages = pages_next f q.list q.list v (set_cache k new v) flushed_first.pages (unchanged q.list) (cache_state v k new refl) in
         let caches = same_again f p.caches (adds k entry v).caches k emptied c'
-        (same_with f (with_cached p.caches k emptied) v.caches k c' new thread listed_then flushed_first.caches new_same) in
+        (same_with f (with_cached p.caches k emptied) v.caches k c' new thread
+        (omega (arith, listed, same_many w v (flushes_keep f k w))) flushed_first.caches (rw cache_is
+        (record { locals = own.locals; log = ap (λ (es : List Entry). es ++ entry ∷ []) own.log; noted = own.noted; idle_since = own.idle_since }))) in
         let records = ap (λ (rs : List Record). p.records ++ rs) (append-nil (records_of (events_by k (part k p.list) steps))) ∙ flushed_first.records in
         assumption (pages, caches, records, flushed_first)
 
-    full_same : IsSame f (after_with p k steps None p.names c') (frees f k entry w)
-    full_same = search (arith, added, page_inside, freed_is, eq-eqb)
-
   by_room : (t : Bool) → nat_le 64 (length (p.caches k).log) ≡ t → TakesEntry f k (p.caches k) c' entry steps
       → IsSame f (after_with p k steps None p.names c') (frees f k entry w)
-  by_room true e takes = full_same e takes
+  by_room true e takes = search (arith, added e takes, page_inside, freed_is, eq-eqb)
   by_room false e takes = freed_same f k entry p w c' steps None thread listed same e (inl (takes, refl))
 
   -- A free into any log, a full one too, leads the text to the replay's state.
@@ -172,17 +156,10 @@ module _ {f : Profile} {k : ℕ} {act : Act} {p p' : Progress} {w : World} (thre
   to : p' ≡ after_with p k a.steps a.said p.names a.cache
   to = reached ∙ ap (λ (ns : List Named). after_with p k a.steps a.said ns a.cache) names
 
-  -- There the replay is between two pieces.
-  there : IsBetween f (with_steps p k a.steps a.cache)
-  there = let b = subst (IsBetween f) to taken.after in record { legal = b.legal; rest = b.rest }
-
   entry_any : (entry : Entry) → IsFreed f k (p.caches k) a.cache entry a.steps a.said → IsSame f p' (frees f k entry w)
   entry_any entry freed =
-      rw to (freed_any f k entry p w a.cache a.steps thread listed taken.valid taken.before taken.same usable there a.said freed)
-
-  name_any : (name : ℕ) (size : Option ℕ) → IsFreedBy f k (p.caches k) a.cache name size (standing_for p.names name) a.steps a.said
-      → IsSame f p' (frees_named f k name (room_noted size) w)
-  name_any = name_freed f k p p' w a taken.same names reached entry_any
+      rw to (freed_any f k entry p w a.cache a.steps thread listed taken.valid taken.before taken.same usable
+      (let b = subst (IsBetween f) to taken.after in record { legal = b.legal; rest = b.rest }) a.said freed)
 
 -- A free of a bare name leads the text to the replay's state, whatever the thread's log holds.
 pub raw_act : (f : Profile) (line k : ℕ) (block : Name) → IsThread f k → StaysSameWhere HasUsableBlocks f (asks line k (Raw block))
@@ -195,28 +172,26 @@ raw_sized_act f line k room block is p p' w usable taken = search (arith, entry_
 -- A free of a name of the trace leads the text to the replay's state, whatever the thread's log holds.
 pub free_act : (f : Profile) (line k name : ℕ) → IsThread f k → StaysSameWhere HasUsableBlocks f (asks line k (Free name))
 free_act f line k name is p p' w usable taken =
-    name_any is taken.listed taken usable taken.advances.0 taken.advances.1.1 taken.advances.2 name None taken.advances.1.0
+    (name_freed f k p p' w taken.advances.0 taken.same taken.advances.1.1 taken.advances.2
+    (entry_any is taken.listed taken usable taken.advances.0 taken.advances.1.1 taken.advances.2)) name None taken.advances.1.0
 
 -- A free of a name of the trace with its room leads the text to the replay's state, whatever the log holds.
 pub free_sized_act : (f : Profile) (line k name room : ℕ) → IsThread f k → StaysSameWhere HasUsableBlocks f (asks line k (FreeSized name room))
 free_sized_act f line k name room is p p' w usable taken =
-    name_any is taken.listed taken usable taken.advances.0 taken.advances.1.1 taken.advances.2 name (Some room) taken.advances.1.0
+    (name_freed f k p p' w taken.advances.0 taken.same taken.advances.1.1 taken.advances.2
+    (entry_any is taken.listed taken usable taken.advances.0 taken.advances.1.1 taken.advances.2)) name (Some room) taken.advances.1.0
 
 -- ---- reallocations that do nothing
-named_same : (f : Profile) (k name : ℕ) (o : Option Block) (said : TheSaid) (p : Progress) (w : World) → IsSame f p w
-    → IsSame f (after_with p k [] (Some said) (named name o ∷ p.names) (p.caches k)) (names_it name o (says (Record.Said k said) w))
-named_same f k name o said p w same =
-    let to : IsSame f (after_with p k [] (Some said) p.names (p.caches k)) (says (Record.Said k said) w) = said_same f k said p w same in
-    let pages = pages_next f p.list p.list w (names_it name o (says (Record.Said k said) w)) same.pages (unchanged p.list) assumption in
-    assumption (pages, ap (λ (ns : List Named). named name o ∷ ns) same.names, to)
-
 remade_as : (f : Profile) (k name : ℕ) (o : Option Block) (said : TheSaid) (p p' : Progress) (w : World) (a : Answer) → IsSame f p w → p' ≡ after_answer p k a
     → a.steps ≡ [] → a.cache ≡ p.caches k → a.said ≡ Some said → a.names ≡ named name o ∷ p.names
     → IsSame f p' (names_it name o (says (Record.Said k said) w))
 remade_as f k name o said p p' w a same reached steps cache is names =
     subst (λ (q : Progress). IsSame f q (names_it name o (says (Record.Said k said) w)))
     (cc)
-    (named_same f k name o said p w same)
+    (let it : IsSame f (after_with p k [] (Some said) (named name o ∷ p.names) (p.caches k)) (names_it name o (says (Record.Said k said) w)) = let to : IsSame f
+    (after_with p k [] (Some said) p.names (p.caches k)) (says (Record.Said k said) w) = said_same f k said p w same in
+    let pages = pages_next f p.list p.list w (names_it name o (says (Record.Said k said) w)) same.pages (unchanged p.list) assumption in
+    assumption (pages, ap (λ (ns : List Named). named name o ∷ ns) same.names, to) in it)
 
 -- of reallocations those that do nothing: the block suits as it is, or the old name stands for none
 abbrev pub IsIdleRemake : ℕ → ℕ → Option (Option Block) → Type 0

@@ -1,42 +1,38 @@
 -- A BIT-FIT REQUEST. Where it is served, the page that was searched for gets a deed and memory where it has none, and the lowest place on it is given. One that is refused
 -- changes no page, and nothing fits in the text either.
 use Rattle.std.proofs.Common.{◌≡◌, ℕ, ◌+◌, ◌*◌, ◌/◌, ◌%◌, ◌<◌, ◌≤◌, ◌==◌, true, false, List, [], ◌∷◌, ◌++◌, None, Some, Result, Ok, inl, refl, ap, sym, ◌∙◌}
-use Rattle.std.proofs.Common.{subst, arith, true≢false, eq-eqb, ◌&&◌, Err}
+use Rattle.std.proofs.{Common.{subst, arith, true≢false, eq-eqb, ◌&&◌, Err}, lemmas.Bool.true_from_ne_false}
 use Rattle.pas_core.proofs.OneActor.{fit_entry, free_shown}
 use Rattle.pas_search.specs.Allocates.{IsGiven}
 use Rattle.pas_bitfit.specs.Runs.{fewer_runs, run_at, runs as run_choice}
-use Rattle.pas_cache.proofs.Routes.{bitfit_room, may_search_bitfit}
+use Rattle.pas_cache.{proofs.Routes.{bitfit_room, may_search_bitfit}, specs.Serves.ServesBitfit}
 use Rattle.pas_same_text.{specs.Runs.{bitfit_of, gives_place, places}, proofs.{PlacesFit.{bitfit_fits, lowest_is}, CacheLists.{same_kept, kept_at}}}
-use Rattle.pas_same_text.proofs.{SmallActs.{after_with, asks}, Pieces.has_same, RunsFound.{shown, shown_rest}, SearchedPages.{refused_same, find_none}}
-use Rattle.pas_same_text.proofs.{SearchedPages.refused_to, GivenBlocks.{GivesBlock, page_chosen, page_ready, page_given}, CachedSlots.HasAsked}
-use Rattle.pas_same_text.proofs.{CachedSlots.{answer_reached, by_route, request_taken}, RestingPages.{open_unguarded, had_open, owned_is, no_word}}
-use Rattle.pas_same_text.proofs.Common.{refused_told, IsRefused, true_from_ne_false, address_of, false_from_ne_true, false≢true, in_run, to_run, deed_word_of}
-use Rattle.pas_same_text.proofs.Common.{IsAdmitted, IsDirectoryOf, route_in, room_in, is_shared, kind_of_route, directory_for, Directory, Route, Event, NoRoom}
-use Rattle.pas_same_text.proofs.Common.{Block, Profile, deed_in, Agreed, triples, events_by, Readings, View, has_right, known_deed, part, Legal, Made}
-use Rattle.pas_same_text.proofs.Common.{part_of_own, free_of_page, HasNoFit, agreed_steps, LendsNone, lends_none, legal_earlier, give_steps, searching}
-use Rattle.pas_same_text.proofs.Common.{MaySearch, AreSearch, IsTrueReason, run_for, Fits, NoneFits, IsLowestFit, Cached, any_covers, ServesBitfit, wanted_for}
-use Rattle.pas_same_text.proofs.Common.{Progress, named, Answer, after_answer, with_cache as with_cached, World, serves, is_unowned, is_offered, IsBetween}
-use Rattle.pas_same_text.proofs.Common.{IsSearch, StaysSame, FitsSame, searched, readies, address_on, gives, some_of, refusal, refuses, lowest_place, IsSame}
-use Rattle.pas_same_text.proofs.Common.{HasSame, AreSameCaches, ArePagesSame, IsThread, Alloc}
+use Rattle.pas_same_text.proofs.{SmallActs.after_with, Pieces.has_same, RunsFound.{shown, shown_rest}, SearchedPages.{refused_same, find_none, refused_to}}
+use Rattle.pas_same_text.proofs.{GivenBlocks.{GivesBlock, page_chosen, page_ready, page_given}, CachedSlots.{HasAsked, answer_reached, by_route}}
+use Rattle.pas_same_text.proofs.{RestingPages.{open_unguarded, had_open, owned_is, no_word}, Common.{refused_told, IsRefused, address_of, false_from_ne_true}}
+use Rattle.pas_same_text.proofs.Common.{false≢true, to_run, deed_word_of, IsAdmitted, IsDirectoryOf, route_in, room_in, is_shared, kind_of_route, directory_for}
+use Rattle.pas_same_text.proofs.Common.{Directory, Route, Event, NoRoom, Block, Profile, deed_in, Agreed, triples, events_by, Readings, View, has_right}
+use Rattle.pas_same_text.proofs.Common.{known_deed, part, Legal, Made, part_of_own, free_of_page, HasNoFit, agreed_steps, LendsNone, lends_none, legal_earlier}
+use Rattle.pas_same_text.proofs.Common.{give_steps, searching, MaySearch, AreSearch, IsTrueReason, run_for, Fits, NoneFits, IsLowestFit, Cached, any_covers}
+use Rattle.pas_same_text.proofs.Common.{wanted_for, Progress, named, Answer, after_answer, with_cache as with_cached, World, serves, is_unowned, is_offered}
+use Rattle.pas_same_text.proofs.Common.{IsBetween, IsSearch, FitsSame, searched, readies, address_on, gives, some_of, refusal, refuses, lowest_place, IsSame}
+use Rattle.pas_same_text.proofs.Common.{HasSame, AreSameCaches, ArePagesSame}
 
 -- ---- where no page serves in the replay, none does in the text
 module _ (no_fit : Readings → Type 0) (f : Profile) (d : Directory) (p : Progress) (w : World) (fits : ℕ → List ℕ) (legal : Legal f p.list)
     (of : IsDirectoryOf f d) (pages : ArePagesSame f p.list w) (same : FitsSame no_fit f p w fits) (none : HasNoFit no_fit f d p.list) where
-  -- In the text no page serves the request.
-  unserved : (q : ℕ) → 1 ≤ q → q < 1 + f.pages → (is_offered w d q && some_of (fits q)) ≡ false
-  unserved q low high = search (arith, false_from_ne_true, false≢true, open_unguarded, had_open)
-
-  -- In the text each page has an owner.
-  owned : (q : ℕ) → 1 ≤ q → q < 1 + f.pages → is_unowned w q ≡ false
-  owned q low high = false_from_ne_true (is_unowned w q) (λ h. none.bare q record {
-    of_region = (low, omega (arith, high));
-    no_deed = owned_is f p.list w legal pages.events q ∙ no_word (deed_in w.events q) h;
-  })
-
   -- Where no page serves in the replay, the text's search refuses, with its own reason.
   pub none_searched : searched f w d fits ≡ Err (refusal f w d)
   none_searched =
-      cc (find_none (λ q. is_offered w d q && some_of (fits q)) f.pages 1 unserved, find_none (is_unowned w) f.pages 1 owned)
+      cc (
+        find_none (λ q. is_offered w d q && some_of (fits q)) f.pages 1
+            (λ q low high. search (arith, false_from_ne_true, false≢true, open_unguarded, had_open)),
+        find_none (is_unowned w) f.pages 1
+            (λ q low high. false_from_ne_true (is_unowned w q) (λ h. none.bare q record {
+              of_region = (low, omega (arith, high));
+              no_deed = owned_is f p.list w legal pages.events q ∙ no_word (deed_in w.events q) h;
+            })),
+      )
 
 -- ---- ANY BIT-FIT REQUEST
 module _ (f : Profile) (k name heap size align : ℕ) (p : Progress) (a : Answer) (w : World) (admitted : IsAdmitted f size align heap)
@@ -64,13 +60,9 @@ module _ (f : Profile) (k name heap size align : ℕ) (p : Progress) (a : Answer
   of : IsDirectoryOf f d
   of = record { heap = admitted.of_profile; kind = tt; class = tt }
 
-  -- The bytes that are given are a multiple of 16 that a page of this kind gives.
-  sized : (16 ≤ bytes) × (bytes ≤ 2048) × (bytes % 16 ≡ 0)
-  sized = bitfit_room f.classes size align route
-
   -- They are one grain at least.
   some : 1 ≤ n
-  some = omega (arith, sized.0)
+  some = omega (arith, (bitfit_room f.classes size align route).0)
 
   -- Before the request the replay has what the text has.
   old : HasSame f p w
@@ -133,20 +125,21 @@ module _ (f : Profile) (k name heap size align : ℕ) (p : Progress) (a : Answer
     gives_it : GivesBlock f k p q w (bitfit.after ++ sought) es block (address_on given.page given.found) bytes heap
     gives_it =
         let address_is : address_of block.name ≡ address_on given.page given.found = omega (arith, given.address_is) in
-        let room_is : block.room ≡ bytes = omega (arith, given.room_is, sized.2) in
+        let room_is : block.room ≡ bytes = omega (arith, given.room_is, (bitfit_room f.classes size align route).2) in
         assumption (asked, there, given.events k own, address_is, room_is, ap (λ (b : Block). b.heap) given.block_is)
 
     -- ---- what was free
-    read_free : (b : ℕ) → b < 256 → in_run given.found n b ≡ true → free_of_page p.list given.page b ≡ true
-    read_free b small kept = true_from_ne_false _ (λ e.
-        fit_entry (λ r. r b ≡ false) f k p.list given.page given.served.shows.readings sought
-        (λ r fewer less none. false_from_ne_true (fewer b) (λ h. true≢false (sym (less b small h) ∙ none))) asked.valid legal_search lends
-        (λ none. true≢false (sym (given.served.shows.took b small kept) ∙ none)) given.served.shows.read
-        (given.served.shows.held.from own may agreed) e)
-
     -- The run fits there.
     fits : Fits (run_for bytes align) (free_of_page p.list given.page) given.found
-    fits = record { aligned = lowest.this.aligned; within = lowest.this.within; free = λ g low high. read_free g (omega (arith, lowest.this.within, high)) (to_run _ n g low high) }
+    fits = record {
+      aligned = lowest.this.aligned;
+      within = lowest.this.within;
+      free = λ g low high. (let small : g < 256 = (omega (arith, lowest.this.within, high)) in true_from_ne_false _ (λ e.
+          fit_entry (λ r. r g ≡ false) f k p.list given.page given.served.shows.readings sought
+          (λ r fewer less none. false_from_ne_true (fewer g) (λ h. true≢false (sym (less g small h) ∙ none))) asked.valid legal_search lends
+          (λ none. true≢false (sym (given.served.shows.took g small (to_run _ n g low high)) ∙ none)) given.served.shows.read
+          (given.served.shows.held.from own may agreed) e));
+    }
 
     -- What is free at entry was read as free.
     more : (b : ℕ) → b < 256 → free_of_page p.list given.page b ≡ true → given.served.serves.readings b ≡ true
@@ -190,14 +183,12 @@ module _ (f : Profile) (k name heap size align : ℕ) (p : Progress) (a : Answer
     knows = ap (λ (x : View). known_deed x given.page) (part_of_own k (bitfit.after ++ sought) p.list)
         ∙ (given.gave.from own may (agreed_steps f k p.list (bitfit.after ++ sought) asked.valid legal)).deed
 
-    given_same : IsSame f q v
-    given_same = page_given given.page _ n name c d sought _ gives_it given.served.events refl some lowest.this.within true [] given.left gave given.leaves tt
+    bitfit_served : IsSame f (after_answer p k a) (serves f k name heap (route_in f size align) bytes align w)
+    bitfit_served = rw (text, to)
+        (page_given given.page _ n name c d sought _ gives_it given.served.events refl some lowest.this.within true [] given.left gave given.leaves tt
         (refl, (refl, tt)) given.after_is right knows bitfit.searches (shown es w).caches asked.before (given.served.marks own may agreed) tt
         (subst (AreSameCaches f (with_cached p.caches k c)) (sym (shown_rest es w).caches) (same_kept f p.caches w.caches k asked.same.caches))
-        (λ j g h. inl (ap (λ (x : Cached). any_covers x.locals g) (kept_at p.caches j k (j == k) refl) ∙ h))
-
-    bitfit_served : IsSame f (after_answer p k a) (serves f k name heap (route_in f size align) bytes align w)
-    bitfit_served = rw (text, to) given_same
+        (λ j g h. inl (ap (λ (x : Cached). any_covers x.locals g) (kept_at p.caches j k (j == k) refl) ∙ h)))
 
   -- ---- ONE THAT IS REFUSED
   module _ (room : NoRoom) (is : asked.served.answer ≡ Err room) where
@@ -232,22 +223,14 @@ module _ (f : Profile) (k name heap size align : ℕ) (p : Progress) (a : Answer
     refused_text = ap (λ (r : Route). serves f k name heap r bytes align w) route ∙ ap (λ (r : Result ℕ NoRoom). places k name heap bytes align r w)
         (none_searched _ f d p w _ asked.before.legal of asked.same.pages (bitfit_fits f p w asked.valid asked.before old bytes align some admitted.aligned) told.0)
 
-    bitfit_refused : IsSame f (after_answer p k a) (serves f k name heap (route_in f size align) bytes align w)
-    bitfit_refused = rw (refused_text, refused_then)
-        (refused_same f k name p w d a.steps room asked.valid asked.thread of asked.before refused_there asked.same searches refused.quiet told.2)
-
   -- Whether it was served or refused, the text does the same.
   answered : (answer : Result Block NoRoom) → asked.served.answer ≡ answer
       → IsSame f (after_answer p k a) (serves f k name heap (route_in f size align) bytes align w)
   answered (Ok block) is = bitfit_served block is
-  answered (Err room) is = bitfit_refused room is
+  answered (Err room) is = rw (refused_text room is, refused_then room is)
+      (refused_same f k name p w d a.steps room asked.valid asked.thread of asked.before (refused_there room is) asked.same (searches room is)
+      (refused room is).quiet (told room is).2)
 
   -- A bit-fit request, served or refused, leads the text to the replay's state.
   pub bitfit_answered : IsSame f (after_answer p k a) (serves f k name heap (route_in f size align) (room_in f size align) align w)
   bitfit_answered = answered asked.served.answer refl
-
--- An operation that makes a bit-fit request leads the text from the replay's state to the replay's state.
-pub bitfit_same : (f : Profile) (line k name heap size align : ℕ) → IsThread f k → IsAdmitted f size align heap → route_in f size align ≡ Route.Bitfit
-    → StaysSame f (asks line k (Alloc name heap size align))
-bitfit_same f line k name heap size align thread admitted route p p' w taken =
-    request_taken f line k name heap size align thread p p' w taken (bitfit_answered f k name heap size align p taken.advances.0 w admitted route)

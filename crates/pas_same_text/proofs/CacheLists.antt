@@ -4,17 +4,17 @@ use Rattle.std.proofs.Common.{◌∙◌, subst, arith, eq-eqb, eqb-true, ne_eqb,
 use Rattle.std.proofs.Common.{◌+◌, ◌*◌, ◌⊎◌, All, ◌/◌, map}
 use Rattle.pas_cache.specs.Locals.{is_for as is_for_slots}
 use Rattle.pas_same_text.{specs.{State.with_cache, Order.operates, Acts.KeepsIndexes}, proofs.Tests.{IsFound, found, passed, any_filtered, filtered_any}}
-use Rattle.pas_same_text.proofs.{Tests.on_page, Common.{take_none, nat_tests, same_Some, none-some, reverse_onto, All-head, All-tail, list_any-append}}
-use Rattle.pas_same_text.proofs.Common.{eqb-false, false≢true, or_cases, or_left, false_from_ne_true, or_right, AllByRecursion, find, flat_map, list_any}
-use Rattle.pas_same_text.proofs.Common.{filter, is_set, IsLowestSet, in_run, Slots, IsWithoutSlot, Cached, local_for, others_than, IsLocal, any_covers, covers}
-use Rattle.pas_same_text.proofs.Common.{Local, Cache, cache_in, is_for, others, is_cached, IsSameLocal, AreSameLocals, has_number, IsRising, IsSameCache}
-use Rattle.pas_same_text.proofs.Common.{AreSameCaches, Profile, IsThread, Caches, with_cache as with_cached, Settled, noted_after, noted_for, EndedRun, run_of}
-use Rattle.pas_same_text.proofs.Common.{to_run, class_grains, IsClass, same_truth, View, start_of, start_at, start_below, Directory, Event, Block, Route}
-use Rattle.pas_same_text.proofs.Common.{backed_in, sized_entry, entry_of, Entry, Record, Said, World, each, shows, says, cache_of, locals_of, log_of, set_cache}
-use Rattle.pas_same_text.proofs.Common.{set_log, is_unowned, minds, indexes_run, IsTaken, HandsOnOwn, some_of, deeds, backs, readies, large_of, is_run}
-use Rattle.pas_same_text.proofs.Common.{deeds_run, serves_pages, gives_up, gives_up_first, gives_first, fetches, makes_place, serves_class_by, ends, flushes}
-use Rattle.pas_same_text.proofs.Common.{stops, frees, frees_what, route_in, room_in, Progress, standing_for, Act, numbers_from, What, lowers, are_bare, raises}
-use Rattle.pas_same_text.proofs.Common.{raises_from, serves, acts_on, opened, Indexes, no_ranges, indexes_after, runs, Raised}
+use Rattle.pas_same_text.proofs.{Tests.on_page, Common.{take_none, nat_tests, same_Some, none-some, All-head, All-tail, list_any-append, eqb-false, false≢true}}
+use Rattle.pas_same_text.proofs.Common.{or_cases, or_left, false_from_ne_true, or_right, AllByRecursion, find, flat_map, list_any, filter, is_set, IsLowestSet}
+use Rattle.pas_same_text.proofs.Common.{in_run, Slots, IsWithoutSlot, Cached, local_for, others_than, IsLocal, any_covers, covers, Local, Cache, cache_in}
+use Rattle.pas_same_text.proofs.Common.{is_for, others, is_cached, IsSameLocal, AreSameLocals, has_number, IsRising, IsSameCache, AreSameCaches, Profile}
+use Rattle.pas_same_text.proofs.Common.{IsThread, Caches, with_cache as with_cached, EndedRun, run_of, to_run, class_grains, IsClass, same_truth, View}
+use Rattle.pas_same_text.proofs.Common.{start_of, start_at, start_below, Directory, Event, Block, Route, backed_in, sized_entry, entry_of, Entry, Record, Said}
+use Rattle.pas_same_text.proofs.Common.{World, each, shows, says, cache_of, locals_of, log_of, set_cache, set_log, is_unowned, minds, indexes_run, IsTaken}
+use Rattle.pas_same_text.proofs.Common.{HandsOnOwn, some_of, deeds, backs, readies, large_of, is_run, deeds_run, serves_pages, gives_up, gives_up_first}
+use Rattle.pas_same_text.proofs.Common.{gives_first, fetches, makes_place, serves_class_by, ends, flushes, stops, frees, frees_what, route_in, room_in}
+use Rattle.pas_same_text.proofs.Common.{Progress, standing_for, Act, numbers_from, What, lowers, are_bare, raises, raises_from, serves, acts_on, Indexes}
+use Rattle.pas_same_text.proofs.Common.{no_ranges, indexes_after, runs, Raised}
 use Rattle.pas_segregated.specs.Masks.{AreStarts}
 use Rattle.pas_large.specs.{declared.span.Span.Span, Doors.cut_in}
 use Rattle.pas_answers.specs.Indexes.{request_by, after_request, after_operation, with_noted}
@@ -117,17 +117,12 @@ locals_with (c ∷ cs) k new is = let ih = locals_with cs (k - 1) new in grind (
 pub same_own : (caches : Caches) (k : ℕ) (c : Cached) → with_cached caches k c k ≡ c
 same_own caches k c = ap (λ (b : Bool). if b then c else caches k) (eq-eqb k k refl)
 
-each_with : (f : Profile) (caches : Caches) (own : List Cache) (j k : ℕ) (c : Cached) (new : Cache) → IsThread f j → IsThread f k → k ≤ length own
-    → AreSameCaches f caches own → IsSameCache c new → (t : Bool) → (j == k) ≡ t
-    → IsSameCache (with_cached caches k c j) (cache_in (with_cache own k new) j)
-each_with f caches own j k c new is of listed same new_same t e = search (arith, same_own, own_with, eqb-true, eqb-false, other_with, ne_eqb)
-
 -- The text's caches are the replay's again after one thread's cache changed to the same on both sides.
 pub same_with : (f : Profile) (caches : Caches) (own : List Cache) (k : ℕ) (c : Cached) (new : Cache) → IsThread f k → k ≤ length own
     → AreSameCaches f caches own → IsSameCache c new → AreSameCaches f (with_cached caches k c) (with_cache own k new)
 same_with f caches own k c new of listed same new_same = record {
   few = omega (arith, many_with own k new, same.few);
-  each = λ j is. each_with f caches own j k c new is of listed same new_same (j == k) refl;
+  each = λ j is. search (arith, same_own, own_with, eqb-true, eqb-false, other_with, ne_eqb);
 }
 
 -- A cache that became what it was is as it was.
@@ -181,17 +176,6 @@ module _ (s : Slots) (l : Local) (b : ℕ) (same : IsSameLocal s l) (is : IsClas
       let ends = run_of o.number (class_grains s.class) b (sym (ap (λ (c : ℕ). in_run o.number (class_grains c) b) same.class) ∙ o.so) in
       ap (is_set s.starts) (start_at s.class o.number b (starts o.number set) ends.0 ends.1) ∙ set
 
-  set_slot : is_set s.starts (start_of s.class b) ≡ true → list_any (λ x. in_run x (class_grains l.class) b) l.slots ≡ true
-  set_slot h = search (arith, start_below, to_run, passed)
-
-grain_same : (s : Slots) (l : Local) (page b : ℕ) → b < 256 → IsSameLocal s l → IsClass s.class → AreStarts s.class s.starts
-    → has_grain page b l ≡ covers s (256 * page + b)
-grain_same s l page b small same is starts =
-    let slots = same_truth _ _ (slot_set s l b same is starts) (set_slot s l b same is starts) in
-    ap (λ (q : ℕ). (q == page) && list_any (λ x. in_run x (class_grains l.class) b) l.slots) same.page ∙ ap (λ (t : Bool). (s.page == page) && t) slots
-    ∙ ap (λ (q : ℕ). (s.page == q) && is_set s.starts (start_of s.class b)) (sym (on_page page b small))
-    ∙ ap (λ (x : ℕ). (s.page == (256 * page + b) / 256) && is_set s.starts (start_of s.class x)) (omega (arith, small))
-
 -- ---- those of a cache
 pub grains_same : (f : Profile) (v : View) (slots : List Slots) (locals : List Local) (page b : ℕ) → b < 256 → AreSameLocals slots locals
     → All (IsLocal f v) slots
@@ -199,7 +183,11 @@ pub grains_same : (f : Profile) (v : View) (slots : List Slots) (locals : List L
 grains_same f v [] [] page b small same known = refl
 grains_same f v (s ∷ slots) (l ∷ locals) page b small same known =
     let at : IsLocal f v s = All-head (IsLocal f v) s slots known in
-    ap (λ (t : Bool). t || list_any (has_grain page b) locals) (grain_same s l page b small same.0 at.class at.starts)
+    ap (λ (t : Bool). t || list_any (has_grain page b) locals)
+    (let slots = same_truth _ _ (slot_set s l b same.0 at.class at.starts) (λ h. search (arith, start_below, to_run, passed)) in
+    ap (λ (q : ℕ). (q == page) && list_any (λ x. in_run x (class_grains l.class) b) l.slots) same.0.page ∙ ap (λ (t : Bool). (s.page == page) && t) slots
+    ∙ ap (λ (q : ℕ). (s.page == q) && is_set s.starts (start_of s.class b)) (sym (on_page page b small))
+    ∙ ap (λ (x : ℕ). (s.page == (256 * page + b) / 256) && is_set s.starts (start_of s.class x)) (omega (arith, small)))
     ∙ ap (λ (t : Bool). covers s (256 * page + b) || t) (grains_same f v slots locals page b small same.1 (All-tail (IsLocal f v) s slots known))
 grains_same f v slots locals page b small same known = absurd same
 
@@ -210,9 +198,6 @@ pub record IsOfCache (cs : List Cache) (p : Local → Bool) : Type 0 where
   pub last : k ≤ length cs
   pub so : list_any p (cache_in cs k).locals ≡ true
 
-cache_next : (c : Cache) (cs : List Cache) (k : ℕ) → 1 ≤ k → cache_in (c ∷ cs) (k + 1) ≡ cache_in cs k
-cache_next c cs k some = search (arith, ne_eqb)
-
 of_cache_at : (c : Cache) (cs : List Cache) (p : Local → Bool) → (list_any p (all_locals cs) ≡ true → IsOfCache cs p)
     → (list_any p c.locals ≡ true) ⊎ (list_any p (all_locals cs) ≡ true) → IsOfCache (c ∷ cs) p
 of_cache_at c cs p rest (inl so) = record { k = 1; first = omega arith; last = omega arith; so = so }
@@ -220,7 +205,12 @@ of_cache_at c cs p rest (inr so) =
     let o = rest so in
     let last : o.k + 1 ≤ length (c ∷ cs) = let le : o.k ≤ length cs = o.last in omega (arith, le) in
     let first : 1 ≤ o.k + 1 = omega arith in
-    record { k = o.k + 1; first = first; last = last; so = ap (λ (x : Cache). list_any p x.locals) (cache_next c cs o.k o.first) ∙ o.so }
+    record {
+      k = o.k + 1;
+      first = first;
+      last = last;
+      so = ap (λ (x : Cache). list_any p x.locals) (let it : cache_in (c ∷ cs) (o.k + 1) ≡ cache_in cs o.k = search (arith, ne_eqb) in it) ∙ o.so;
+    }
 
 -- A local allocator among those of all caches is one of some thread's cache.
 pub of_cache : (cs : List Cache) (p : Local → Bool) → list_any p (all_locals cs) ≡ true → IsOfCache cs p
@@ -283,12 +273,10 @@ each_keeps does (x ∷ xs) keeps w = each_keeps does xs keeps (does x w) ∙ kee
 pub minds_keep : (page : ℕ) (w : World) → still (minds page w) ≡ still w
 minds_keep page w = search (arith, either)
 
-ends_keep : (f : Profile) (k : ℕ) (entry : Entry) (w : World) → still (ends f k entry w) ≡ still w
-ends_keep f k entry w = search (arith, either, each_keeps, minds_keep, cache_keeps)
-
 -- A flush keeps indexes and guards.
 pub flushes_keep : (f : Profile) (k : ℕ) (w : World) → still (flushes f k w) ≡ still w
-flushes_keep f k w = each_keeps (ends f k) (log_of w k) (ends_keep f k) (set_log k [] w) ∙ cache_keeps k (record (cache_of w k) { log = [] }) w
+flushes_keep f k w = each_keeps (ends f k) (log_of w k) (λ entry w. search (arith, either, each_keeps, minds_keep, cache_keeps)) (set_log k [] w)
+    ∙ cache_keeps k (record (cache_of w k) { log = [] }) w
 
 -- stops
 pub given_up_keeps : (k : ℕ) (l : Local) (w : World) → still (gives_up k l w) ≡ still w
@@ -346,20 +334,16 @@ either_many false v u n one other = other
 
 -- ==== REQUESTS AND OPERATIONS change what a replay's change of the indexes, and neither a guard nor how many caches there are.
 -- the guards and the caches of this state, with these indexes
-abbrev with_indexes : Indexes → World → Still
+abbrev pub with_indexes : Indexes → World → Still
 with_indexes indexes w = (indexes, w.guards, length w.caches)
 
 pages_still : (f : Profile) (k name heap n : ℕ) (w : World) → still (serves_pages f k name heap n w) ≡ with_indexes (cut_in w.indexes heap n) w
 pages_still f k name heap n w = search (arith, each_keeps, backs_keep, deeds_keep)
 
 -- a request takes out what was named for it
-serves_still : (f : Profile) (k name heap : ℕ) (route : Route) (room align : ℕ) (w : World)
+pub serves_still : (f : Profile) (k name heap : ℕ) (route : Route) (room align : ℕ) (w : World)
     → still (serves f k name heap route room align w) ≡ with_indexes (after_request route heap (room / 4096) w.indexes) w
 serves_still f k name heap a room align w = search (arith, class_keeps, readies_keep, pages_still)
-
-pub serves_many : (f : Profile) (k name heap : ℕ) (route : Route) (room align : ℕ) (w : World)
-    → length (serves f k name heap route room align w).caches ≡ length w.caches
-serves_many f k name heap route room align w = ap (λ (s : Still). s.2) (serves_still f k name heap route room align w)
 
 -- A request changes the indexes of the text as it changes those of a replay.
 pub request_indexes : (f : Profile) (k name heap : ℕ) (route : Route) (room align : ℕ) (w : World)
@@ -437,10 +421,6 @@ pub indexes_kept : (f : Profile) (act : Act) → KeepsIndexes f act
 indexes_kept f act p p' w indexes own taken is = text_indexes f act p p' w own taken ∙ ap (λ (ix : Indexes). indexes_after f act p p' taken.advances ix) is
 
 -- ---- the start
-none_yet : (n from : ℕ) → map (λ (h : ℕ). let none : List Span = [] in none) (numbers_from from n) ≡ no_ranges n
+pub none_yet : (n from : ℕ) → map (λ (h : ℕ). let none : List Span = [] in none) (numbers_from from n) ≡ no_ranges n
 none_yet zero from = refl
 none_yet (suc n) from = ap (λ (ix : Indexes). [] ∷ ix) (none_yet n (from + 1))
-
--- The indexes of the opened region hold nothing, as those of a replay.
-pub start_indexes : (threads heaps : ℕ) → (opened threads heaps).indexes ≡ no_ranges heaps
-start_indexes threads heaps = none_yet heaps 1

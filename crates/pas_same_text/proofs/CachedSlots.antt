@@ -5,12 +5,11 @@ use Rattle.pas_same_text.proofs.Common.{IsValid, route_in, room_in, address_of, 
 use Rattle.pas_same_text.proofs.Common.{Profile, Directory, Event, Word, part, made, ServesBy, wanted_for, ServesClass, IsObtained, filling_in, IsThread, Alloc}
 use Rattle.pas_same_text.proofs.Common.{Request, Progress, Answer, named, having, IsServed, after_answer, said_of_request, block_of as block_answered, Named}
 use Rattle.pas_same_text.proofs.Common.{World, Local, cache_of, locals_of, serves, IsAsked, address_on, is_free, is_offered, IsSame, HasSame, IsSameCache}
-use Rattle.pas_same_text.proofs.Common.{IsSameLocal, has_number, IsBetween, IsTaken, StaysSameWhere, false≢true, none-some, find, HasMember, IsLowestSet}
-use Rattle.pas_same_text.proofs.Common.{gives_in, Made, Look, Give, eligible_bit, runs, Slots, GivesSlot, IsWithoutSlot, Cached, local_for, others_than, Record}
-use Rattle.pas_same_text.proofs.{Common.{is_for, others, gives_first, serves_class, same_truth}, SmallActs.{after_with, asks, records_next}}
-use Rattle.pas_same_text.proofs.{FreeGrains.free_same, GivenBack.each_same, Tests.{and_first, and_second}, CacheLists.{same_with, Finds, found_same}}
-use Rattle.pas_same_text.proofs.{CacheLists.{others_same, last_same, slot_given}, RestingPages.{is_open, had_open, bit_offered, offered_bit}}
-use Rattle.pas_same_text.specs.Acts.{HasCachedSlot}
+use Rattle.pas_same_text.proofs.Common.{IsSameLocal, has_number, IsBetween, IsTaken, false≢true, none-some, find, HasMember, IsLowestSet, gives_in, Made, Look}
+use Rattle.pas_same_text.proofs.Common.{Give, eligible_bit, runs, Slots, GivesSlot, IsWithoutSlot, Cached, local_for, others_than, Record, is_for, others}
+use Rattle.pas_same_text.proofs.{Common.{gives_first, serves_class, same_truth}, SmallActs.{after_with, asks, records_next}, FreeGrains.free_same}
+use Rattle.pas_same_text.proofs.{GivenBack.each_same, Tests.{and_first, and_second}, CacheLists.{same_with, Finds, found_same, others_same, last_same}}
+use Rattle.pas_same_text.{proofs.{CacheLists.slot_given, RestingPages.{is_open, had_open, bit_offered, offered_bit}}, specs.Acts.HasCachedSlot}
 use Rattle.pas_cache.specs.Locals.{is_for as is_for_slots}
 
 -- Thread k asks for r after p, where the text's state is w, and is answered by a. All actors are at rest before and after it.
@@ -52,12 +51,6 @@ request_taken f line k name heap size align thread p p' w taken answers = search
 -- ---- blocks by their parts
 abbrev pub block_of : ℕ → ℕ → ℕ → ℕ → Block
 block_of address turn room heap = record { name = record { address = record { 0 = address }; turn = turn }; room = room; heap = heap }
-
--- A block is known by its address, its turn, its room and its heap.
--- by its four parts
-block_same : (block : Block) (address turn room heap : ℕ) → address_of block.name ≡ address → block.name.turn ≡ turn → block.room ≡ room → block.heap ≡ heap
-    → block ≡ block_of address turn room heap
-block_same block address turn room heap a t r h = search arith
 
 -- ---- the two steps
 abbrev give_steps : Block → ℕ → ℕ → ℕ → ℕ → List Made
@@ -107,7 +100,7 @@ module _ (f : Profile) (k name : ℕ) (p : Progress) (w : World) (s s' : Slots) 
   address_is = search (arith, given_slot)
 
   block_is : block ≡ text_block w l n
-  block_is = search (arith, block_same, address_is, (runs f (given_to p k name block answer page start word c').list g.valid g.after.legal))
+  block_is = search (arith, address_is, (runs f (given_to p k name block answer page start word c').list g.valid g.after.legal))
 
   abbrev to : World
   to = gives_first k name l (n ∷ more) w
@@ -122,14 +115,12 @@ module _ (f : Profile) (k name : ℕ) (p : Progress) (w : World) (s s' : Slots) 
       ∙ sym (free_same f p w g.valid g.between
       (record { events = g.same.pages.events; live = g.same.pages.live; caches = g.same.caches; guards = g.same.guards }) q b small)
 
-  open_kept : (d : Directory) (q : ℕ) → is_open to d q ≡ is_open w d q
-  open_kept d q = search (arith, free_kept, each_same)
-
   offered_kept : (q : ℕ) (d : Directory) → IsDirectoryOf f d
       → is_offered to d q ≡ eligible_bit (given_to p k name block answer page start word c').list (number_of d) q
   offered_kept q d of = same_truth _ _
       (offered_bit f (given_to p k name block answer page start word c') to g.valid g.after has_same q d of)
-      (λ h. bit_offered f _ to g.valid g.after has_same q d of h (open_kept d q ∙ had_open w d q (g.same.pages.offered q d of ∙ h)))
+      (λ h. bit_offered f _ to g.valid g.after has_same q d of h
+      ((let it : is_open to d q ≡ is_open w d q = search (arith, free_kept, each_same) in it) ∙ had_open w d q (g.same.pages.offered q d of ∙ h)))
 
   given_same : IsSame f (given_to p k name block answer page start word c') to
   given_same =
@@ -211,9 +202,3 @@ cached_answered f k name heap size align class p a w listed route has asked =
     let o : Served f k name heap class p (after_answer p k a) w has.0 =
     served_by f k name heap size align class p _ w has.0 has.1 has.2 a asked.served refl sv sv.locals.obtained in
     rw route (to_given f k name heap class p _ w has.0 asked.valid asked.thread listed asked.before asked.after asked.same has.1 has.2 o)
-
--- A request of a class for which the cache has a slot leads the text to the replay's state.
-pub cached_same : (f : Profile) (line k name heap size align class : ℕ) → IsThread f k → route_in f size align ≡ Route.Class class
-    → StaysSameWhere (HasCachedSlot heap class k) f (asks line k (Alloc name heap size align))
-cached_same f line k name heap size align class is route p p' w has taken =
-    request_taken f line k name heap size align is p p' w taken (cached_answered f k name heap size align class p taken.advances.0 w taken.listed route has)

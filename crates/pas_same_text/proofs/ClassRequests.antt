@@ -1,25 +1,25 @@
 -- A REQUEST OF A CLASS THAT A PAGE SERVES, where the cache has place for a local allocator: the page that was searched for gets a deed and memory where it has none, its
 -- slots are taken, the lowest of them is given, and the others are cached.
-use Rattle.std.proofs.Common.{length, ◌≡◌, ℕ, ◌+◌, ◌/◌, ◌%◌, ◌≤◌, ◌==◌, Bool, true, false, not, if◌then◌else◌, List, [], ◌∷◌, ◌++◌, None, Some, Result, Ok, ◌⊎◌}
-use Rattle.std.proofs.Common.{inl, inr, refl, ap, sym, ◌∙◌, subst, append_assoc, arith, append-nil, true≢false, eq-eqb, eqb-true, Err}
-use Rattle.pas_steps.proofs.{Frames.right_of_own, Apart.deeds_same}
-use Rattle.pas_segregated.specs.Refills.{GivesSlots, GetsSlots}
-use Rattle.pas_cache.{specs.Serves.took_in, proofs.Obtained.kept_by}
-use Rattle.pas_same_text.{specs.Classes.local_on, proofs.{PlacesFit.{class_fits, read_unguarded}, SmallActs.{after_with, asks}, MadePlace.{all_left, up_to}}}
-use Rattle.pas_same_text.proofs.{TakenSince.{shared_row, right_kept, exclusive_free}, TakenSlots.{all_taken, row_taken, slots_rise}, Tests.{and_first, or_none}}
-use Rattle.pas_same_text.proofs.{Pieces.has_same, RunsFound.{shown, shown_rest}, FetchedClasses.{HasPlace, may_fetch, class_served_by, fetched_so}}
-use Rattle.pas_same_text.proofs.FetchedClasses.{class_refused, IsFetched, with_place, place_fetched, text_fetched, fetch_between, fetch_carried}
-use Rattle.pas_same_text.proofs.{CachedSlots.{text_locals, HasHead, head_of, cached_answered, HasAsked, answer_reached, request_taken}, GivenBlocks.GivesBlock}
-use Rattle.pas_same_text.proofs.{GivenBlocks.{page_chosen, page_ready, page_given}, CacheLists.{same_with, others_same, last_same, slot_given, same_own}}
-use Rattle.pas_same_text.proofs.Common.{LendsNone, address_of, false≢true, or_cases, not-false, list_any-append, is_set, class_size, class_grains, IsSlotStart}
-use Rattle.pas_same_text.proofs.Common.{deed_word_of, IsAdmitted, class_home, is_shared, kind_of_class, route_in, room_in, Directory, Event, NoRoom, Block}
-use Rattle.pas_same_text.proofs.Common.{Profile, Route, class_grains_positive, usable_grains_le, slot_end, triples, events_by, ShowsHere, Once, Always, View}
-use Rattle.pas_same_text.proofs.Common.{has_right, known_deed, Whole, part, Legal, Only, Giving, LookLife, returning, Made, part_of_own, events_same}
+use Rattle.pas_same_text.proofs.Common.{or-false, LendsNone, address_of, false≢true, or_cases, not-false, list_any-append, is_set, class_size, class_grains}
+use Rattle.pas_same_text.proofs.Common.{IsSlotStart, deed_word_of, IsAdmitted, class_home, is_shared, kind_of_class, route_in, room_in, Directory, Event}
+use Rattle.pas_same_text.proofs.Common.{NoRoom, Block, Profile, Route, class_grains_positive, usable_grains_le, slot_end, triples, events_by, Once, Always}
+use Rattle.pas_same_text.proofs.Common.{View, has_right, known_deed, Whole, part, Legal, Only, Giving, LookLife, returning, Made, part_of_own, events_same}
 use Rattle.pas_same_text.proofs.Common.{free_of_page, agreed_steps, lends_none, legal_earlier, KeepsMarks, searching, MaySearch, start_of, LeavesWhere, NoSlot}
 use Rattle.pas_same_text.proofs.Common.{fewer_slots, Slots, GivesSlot, Cached, any_covers, covers, filling_in, IsRefill, IsObtained, IsAnswered, ServesClass}
 use Rattle.pas_same_text.proofs.Common.{Progress, named, Named, Answer, after_answer, Cache, World, Local, cache_of, IsFreeSlot, is_guarded, IsBetween}
-use Rattle.pas_same_text.proofs.Common.{IsSearch, serves, StaysSame, some_of, searched, readies, address_on, slots_for, gives_first, takes_page, fetches}
-use Rattle.pas_same_text.proofs.Common.{serves_class, IsSame, HasSame, IsSameCache, IsSameLocal, AreSameLocals, AreSameCaches, has_number, IsThread, Alloc}
+use Rattle.pas_same_text.proofs.Common.{IsSearch, serves, some_of, searched, readies, address_on, slots_for, gives_first, takes_page, fetches, serves_class}
+use Rattle.pas_same_text.proofs.{Common.{IsSame, HasSame, IsSameLocal, AreSameLocals, AreSameCaches, has_number}, PlacesFit.{class_fits, read_unguarded}}
+use Rattle.pas_same_text.proofs.{SmallActs.after_with, MadePlace.{all_left, up_to}, TakenSince.{shared_row, right_kept, exclusive_free}, TakenSlots.all_taken}
+use Rattle.pas_same_text.proofs.{TakenSlots.{row_taken, slots_rise}, Tests.and_first, Pieces.has_same, RunsFound.{shown, shown_rest}, FetchedClasses.HasPlace}
+use Rattle.pas_same_text.proofs.FetchedClasses.{may_fetch, class_served_by, fetched_so, class_refused, IsFetched, with_place, place_fetched, text_fetched}
+use Rattle.pas_same_text.proofs.{FetchedClasses.{fetch_between, fetch_carried}, CachedSlots.{text_locals, HasHead, head_of, cached_answered, HasAsked}}
+use Rattle.pas_same_text.proofs.{CachedSlots.answer_reached, GivenBlocks.{GivesBlock, page_chosen, page_ready, page_given}, CacheLists.{same_with, others_same}}
+use Rattle.pas_same_text.{proofs.CacheLists.{last_same, slot_given, same_own}, specs.Classes.local_on}
+use Rattle.pas_steps.{specs.Evidence.ShowsHere, proofs.{Frames.right_of_own, Apart.deeds_same}}
+use Rattle.std.proofs.Common.{length, ◌≡◌, ℕ, ◌+◌, ◌/◌, ◌%◌, ◌≤◌, ◌==◌, Bool, true, false, not, if◌then◌else◌, List, [], ◌∷◌, ◌++◌, None, Some, Result, Ok, ◌⊎◌}
+use Rattle.std.proofs.Common.{inl, inr, refl, ap, sym, ◌∙◌, subst, append_assoc, arith, append-nil, true≢false, eq-eqb, eqb-true, Err}
+use Rattle.pas_segregated.specs.Refills.{GivesSlots, GetsSlots}
+use Rattle.pas_cache.{specs.Serves.took_in, proofs.Obtained.kept_by}
 
 -- the replay after the block was given of slots that were fetched, of which these are left
 abbrev pub fetched_to : Progress → ℕ → ℕ → List Made → Slots → Block → Progress
@@ -90,9 +90,6 @@ module _ (f : Profile) (k name heap class : ℕ) (p : Progress) (w : World) (has
   old : HasSame f p w
   old = has_same has.same
 
-  of_heap : slots.heap ≡ heap
-  of_heap = ap (λ (e : Directory). e.heap) got.home
-
   -- The right is kept just where the heap isn't shared.
   kept : slots.right ≡ not shared
   kept = kept_by slots.right shared slots.class class (ap (λ (e : Directory). e.kind) got.home)
@@ -126,7 +123,7 @@ module _ (f : Profile) (k name heap class : ℕ) (p : Progress) (w : World) (has
 
   local_same : IsSameLocal slots local
   local_same = assumption (
-    sym of_heap,
+    sym (ap (λ (e : Directory). e.heap) got.home),
     sym got.class_is,
     sym kept,
     taken_by shared got.took,
@@ -146,16 +143,9 @@ module _ (f : Profile) (k name heap class : ℕ) (p : Progress) (w : World) (has
       let lends : LendsNone sought = lends_none searching refl sought refill.searches.kinds in
       assumption (has, fewer_slots class, legal_search, lends, may.rights, class_fits f p w has.valid has.between old class has.filling.class shared)
 
-  -- The page has a free slot at entry.
-  fit : NoSlot class (free_of_page p.list slots.page) → ⊥
-  fit none = true≢false (sym (ap some_of head.is) ∙ is_search.fits_same.none slots.page got.page unguarded none)
-
   -- ---- events
   abbrev es : List Event
   es = events_by k own sought
-
-  events_are : events_by k own (given ++ ys) ≡ Event.Give k block ∷ es
-  events_are = cc (events_same returning refl k own refill.after sought got.after_kinds)
 
   -- ---- the block
   some : 1 ≤ class_grains class
@@ -169,8 +159,9 @@ module _ (f : Profile) (k name heap class : ℕ) (p : Progress) (w : World) (has
   gives_it : GivesBlock f k p q w steps es block (address_on slots.page head.head) (class_size class) heap
   gives_it =
       let address_is : address_of block.name ≡ address_on slots.page head.head = omega (arith, gives.address, slot.0) in
-      let shown = ap (events_by k own) (sym steps_are) ∙ events_are in
-      assumption (has, there, shown, address_is, gives.room ∙ ap class_size got.class_is, gives.heap ∙ of_heap)
+      let shown = ap (events_by k own) (sym steps_are) ∙ (let it : events_by k own
+      (given ++ ys) ≡ Event.Give k block ∷ es = cc (events_same returning refl k own refill.after sought got.after_kinds) in it) in
+      assumption (has, there, shown, address_is, gives.room ∙ ap class_size got.class_is, gives.heap ∙ ap (λ (e : Directory). e.heap) got.home)
 
   -- ---- the text
   abbrev v : World
@@ -178,16 +169,14 @@ module _ (f : Profile) (k name heap class : ℕ) (p : Progress) (w : World) (has
 
   text : fetches f k name heap class w ≡ v
   text =
-      ap (λ (r : Result ℕ NoRoom). takes_page f k name heap class r w) (page_chosen is_search slots.page got.page got.choice fit)
+      ap (λ (r : Result ℕ NoRoom). takes_page f k name heap class r w) (page_chosen is_search slots.page got.page got.choice
+      (λ none. true≢false (sym (ap some_of head.is) ∙ is_search.fits_same.none slots.page got.page unguarded none)))
       ∙ (ap (λ (xs : List ℕ). gives_first k name local xs (readies k d slots.page w)) head.is
       ∙ ap (gives_first k name local (head.head ∷ head.more)) (page_ready slots.page head.head _ name new d sought _ gives_it got.events refl some fits_page))
 
   -- ---- the cache
   caches_shown : AreSameCaches f p.caches (shown es w).caches
   caches_shown = subst (AreSameCaches f p.caches) (sym (shown_rest es w).caches) has.same.caches
-
-  listed_then : k ≤ length (shown es w).caches
-  listed_then = omega (arith, has.listed, ap (λ (cs : List Cache). length cs) (shown_rest es w).caches)
 
   locals_same : AreSameLocals new.locals (text_locals (shown es w) k local head.more)
   locals_same = last_same c.locals _ rest (record local { slots = head.more })
@@ -196,15 +185,12 @@ module _ (f : Profile) (k name heap class : ℕ) (p : Progress) (w : World) (has
   abbrev own_cache : Cache
   own_cache = record (cache_of (shown es w) k) { locals = text_locals (shown es w) k local head.more }
 
-  cache_same : IsSameCache new own_cache
-  cache_same = let was = caches_shown.each k has.thread in record { locals = locals_same; log = was.log; noted = was.noted; idle_since = was.idle_since }
-
   -- ---- what was used: the page
   cached_at : (j g : ℕ) (t : Bool) → (j == k) ≡ t → any_covers (if t then new else p.caches j).locals g ≡ true
       → (any_covers (p.caches j).locals g ≡ true) ⊎ ((slots.page == g / 256) ≡ true)
   cached_at j g true e h = elim (or_cases _ _ (sym (list_any-append (λ s. covers s g) c.locals (rest ∷ [])) ∙ h)) [
     | inl was ↦ inl (ap (λ (i : ℕ). any_covers (p.caches i).locals g) (eqb-true j k e) ∙ was)
-    | inr own ↦ inr (cc (and_first (rest.page == g / 256) (is_set rest.starts (start_of rest.class (g % 256))) (or_none (covers rest g) own)))
+    | inr own ↦ inr (cc (and_first (rest.page == g / 256) (is_set rest.starts (start_of rest.class (g % 256))) (sym (or-false (covers rest g)) ∙ own)))
   ]
   cached_at j g false e h = inl h
 
@@ -238,7 +224,9 @@ module _ (f : Profile) (k name heap class : ℕ) (p : Progress) (w : World) (has
   fetched_same = page_given slots.page head.head _ name new d sought _ gives_it got.events refl some fits_page _ given refill.after []
       got.leaves given_kinds tt (ap (λ (ms : List Made). given ++ ms) (sym (append-nil refill.after))) (right_then slots.right refl) knows refill.searches
       _ has.between marks has.filling.directory.kind
-      (same_with f p.caches _ k new own_cache has.thread listed_then caches_shown cache_same)
+      (same_with f p.caches _ k new own_cache has.thread
+      (omega (arith, has.listed, ap (λ (cs : List Cache). length cs) (shown_rest es w).caches)) caches_shown
+      (let was = caches_shown.each k has.thread in record { locals = locals_same; log = was.log; noted = was.noted; idle_since = was.idle_since }))
       (λ j g h. cached_at j g (j == k) refl h)
 
   -- THE FETCH IS SERVED as the text says
@@ -285,18 +273,12 @@ module _ (f : Profile) (k name heap size align class : ℕ) (p : Progress) (a : 
     to : after_answer p k a ≡ after_with p k (given ++ steps) None names cache_then
     to = answer_reached asked (Ok block) is ∙ cc (new_is)
 
-    -- There the replay is between two pieces.
-    end : IsBetween f (fetched_to p1 k name (given ++ o.fetch.searched) rest block)
-    end = fetch_between f k heap class p w (Ok slots) fewer steps o given None names cache_then (subst (IsBetween f) to asked.after)
-
-    -- And it is where the text is.
-    ended : IsSame f (fetched_to p1 k name (given ++ o.fetch.searched) rest block) (fetches f k name heap class w1)
-    ended = fetch_served f k name heap class p1 w1 (place_fetched f k heap class p w (Ok slots) fewer steps o) slots rest block _ given o.fetch.refill gives end
-
     given_so : IsSame f (after_answer p k a) (serves_class f k name heap class w)
     given_so =
         rw (text_fetched f k heap class p w (Ok slots) fewer steps o name, to)
-        (fetch_carried f k heap class p w (Ok slots) fewer steps o given None names cache_then (fetches f k name heap class w1) ended)
+        (fetch_carried f k heap class p w (Ok slots) fewer steps o given None names cache_then (fetches f k name heap class w1)
+        (fetch_served f k name heap class p1 w1 (place_fetched f k heap class p w (Ok slots) fewer steps o) slots rest block _ given o.fetch.refill gives
+        (fetch_between f k heap class p w (Ok slots) fewer steps o given None names cache_then (subst (IsBetween f) to asked.after))))
 
   -- ---- a block was given
   from_slots : (block : Block) → asked.served.answer ≡ Ok block → (slots : Slots) (fewer : List Slots) (early given : List Made) → a.steps ≡ given ++ early
@@ -325,9 +307,3 @@ module _ (f : Profile) (k name heap size align class : ℕ) (p : Progress) (a : 
   -- A request of a class, served or refused, leads the told to the replay's state.
   pub class_answered : IsSame f (after_answer p k a) (serves f k name heap (route_in f size align) (room_in f size align) align w)
   class_answered = answered asked.served.answer refl
-
--- An operation that makes a request of a class leads the told from the replay's state to the replay's state.
-pub class_same : (f : Profile) (line k name heap size align class : ℕ) → IsThread f k → IsAdmitted f size align heap → route_in f size align ≡ Route.Class class
-    → StaysSame f (asks line k (Alloc name heap size align))
-class_same f line k name heap size align class thread admitted route p p' w taken =
-    request_taken f line k name heap size align thread p p' w taken (class_answered f k name heap size align class p _ w taken.listed admitted route)

@@ -3,7 +3,7 @@ use Rattle.std.proofs.Common.{◌≡◌, ℕ, zero, suc, ◌<◌, true, Bool, Li
 use Rattle.std.proofs.Common.{◌+◌, ◌*◌, ◌/◌, ◌^◌, ◌≤◌, false, ◌∙◌, eq-eqb}
 use Rattle.pas_bits.proofs.Runs.{to_meet}
 use Rattle.pas_steps.{specs.{Allowed.IsEndIn, Effects.life_word_at, Kinds.Unparking}, proofs.Past.in_turn_always}
-use Rattle.pas_rights.specs.{Looks.{is_free, HintsWhere}, Returns.{ReofferSteps, ReturnSteps}}
+use Rattle.pas_rights.specs.{Looks.{is_free, HintsWhere}, Returns.ReturnSteps}
 use Rattle.pas_same_text.proofs.{StepMarks.{hint_step, hints_none, IsMarked, marked_parts, none_marked, returns_marked}, Flushes.visible_steps, Common.cases_eq}
 use Rattle.pas_same_text.proofs.Common.{hints_both, full_bit, Directory, Word, Event, Name, Profile, Always, Since, made, triples, event_of, events_by}
 use Rattle.pas_same_text.proofs.Common.{epoch_of, LookFree, Offering, Only, kind_of, is_in, LookDeed, Putting, Stamping, returning, Kinds, Made, Look, Stamp}
@@ -14,7 +14,7 @@ use Rattle.pas_same_text.proofs.Common.{events_same, returns_are, word_of_deed, 
 use Rattle.pas_same_text.proofs.Common.{event_for, ending, is_sized, Ended, Refused, Entry, is_other_room}
 use Rattle.pas_answers.proofs.Consequences.{first_page}
 use Rattle.pas_profile.specs.Lives.{live_word}
-use Rattle.pas_core.{specs.Good.{IsLifeOf, IsLifeOfLive}, proofs.Lives.{life_of, block_of_word}}
+use Rattle.pas_core.{specs.Good.IsLifeOfLive, proofs.Lives.{life_of, block_of_word}}
 use Rattle.pas_free_log.specs.{Endings.{guess_by, last_step}, Frames.putting_back, Stamps.pages_from, Returns.{PageSteps, PagesSteps, RunSteps, first_on}}
 use Rattle.pas_free_log.{specs.{Returns.count_on, declared.ending.Outcome.Outcome}, proofs.OneEntry.{first_look, trying, AreIdle, EndsWith, last_ends}}
 use Rattle.pas_free_log.proofs.OneEntry.{last_refused, guess_is, not_ended, count_some, idle_before}
@@ -40,16 +40,12 @@ hints_where : (all_free : Bool) (page : ℕ) (steps xs : List Made) → HintsWhe
     → (all_free ≡ true → (word : ℕ) → word < 4 → Since (ReadsAllFree page word) (TakesNone page) xs) → Always HintsEmpty xs → Always HintsEmpty (steps ++ xs)
 hints_where all_free page steps xs h read rest = search (arith, hint_step)
 
--- in either case the steps are written out
-reoffer_only : (page : ℕ) (d : Directory) (steps : List Made) → ReofferSteps page d steps → Only (Unparking ∷ Offering ∷ []) steps
-reoffer_only page d steps h = search arith
-
 -- What follows a return of grains hints no page but one that it read as backed and empty.
 pub return_hints : (page : ℕ) (d : Directory) (steps : List Made) → ReturnSteps page d steps → Always HintsEmpty steps
 return_hints page d steps h =
     let before = looks_until page h.used ++ h.first in
     let rest = hints_both _ h.first (hints_none (LookFree ∷ []) _ refl (until_only page h.used))
-    (hints_none (Unparking ∷ Offering ∷ []) h.first refl (reoffer_only page d h.first h.reoffers)) in
+    (hints_none (Unparking ∷ Offering ∷ []) h.first refl (search arith)) in
     subst (Always HintsEmpty) (sym h.steps_are) (hints_where _ page h.after before h.hints (λ free. until_read page h.used free h.first) rest)
 
 -- ==== One logged free by its steps: the event that they make, the block that ended, and what is noted, marked and hinted.
@@ -70,9 +66,6 @@ module _ (g n : ℕ) (steps : List Made) (h : PageSteps g n steps) where
       (only_within returning putting_back h.after refl (returns_are (g / 256) h.after (return_returns (g / 256) h.directory h.after h.returns)))
       (only_within puts putting_back put refl put_kinds))
 
-  page_hints : Always HintsEmpty steps
-  page_hints = rw h.steps_are (hints_both h.after put (return_hints (g / 256) h.directory h.after h.returns) (hints_none puts put refl put_kinds))
-
   page_marks : (q : ℕ) → IsMarked q steps → g / 256 ≡ q
   page_marks q marked = elim (marked_parts q h.after put (subst (IsMarked q) h.steps_are marked)) [
     | inl first ↦ returns_marked (g / 256) q h.after (return_returns (g / 256) h.directory h.after h.returns) first
@@ -85,7 +78,8 @@ run_kinds k g n steps h = in_turn_always (λ page piece. PageSteps (first_on g p
 
 run_hints : (k g n : ℕ) (steps : List Made) → PagesSteps k g n steps → Always HintsEmpty steps
 run_hints zero g n steps h = subst (Always HintsEmpty) (sym h) tt
-run_hints (suc k) g n steps h = subst (Always HintsEmpty) (sym h.4) (hints_both h.0 h.1 (page_hints _ _ h.0 h.2) (run_hints k g n h.1 h.3))
+run_hints (suc k) g n steps h = subst (Always HintsEmpty) (sym h.4) (hints_both h.0 h.1 (rw h.2.steps_are (hints_both h.2.after (put _ _ h.0 h.2) (return_hints
+    (_ / 256) h.2.directory h.2.after h.2.returns) (hints_none (puts _ _ h.0 h.2) (put _ _ h.0 h.2) refl (put_kinds _ _ h.0 h.2)))) (run_hints k g n h.1 h.3))
 
 run_marks : (k g n q : ℕ) (steps : List Made) → PagesSteps k g n steps → IsMarked q steps → (g / 256 ≤ q) × (q < g / 256 + k)
 run_marks zero g n q steps h marked = absurd (subst (IsMarked q) h marked)
@@ -139,9 +133,6 @@ module _ (f : Profile) (k epoch : ℕ) (s : Settled) (piece : List Made) (l : Wh
   abbrev lm : Whole
   lm = triples k first ++ l
 
-  answer_is : is.order.answer ≡ word_after lm (life_word_at (grain_of s.entry.name))
-  answer_is = search (arith, ends_legal)
-
   -- The name and the length that is looked for fit the region.
   within : IsEndIn f s.entry.name is.order.guess
   within = search (arith, guessed, ends_legal)
@@ -153,19 +144,20 @@ module _ (f : Profile) (k epoch : ℕ) (s : Settled) (piece : List Made) (l : Wh
   abbrev word : ℕ
   word = word_after lm (life_word_at g)
 
-  -- The life word that the end reads is that of the events.
-  life : IsLifeOf f g word (live_in (visible lm) (16 * g)) (gives_in (visible lm) (16 * g)) (ends_in (visible lm) (16 * g))
-  life = life_of f lm valid ends_legal.1 g
-
   -- An end that was answered by the live word of its turn and length ended the block that lives there, of just that length.
   pub found_block : is.order.answer ≡ live_word s.entry.name.turn is.order.guess → IsEndOfBlock f l s.entry is.order.guess
   found_block hit =
       let turn : s.entry.name.turn < 2 ^ 40 = omega (arith, within.2) in
       let o = block_of_word f g word (live_in (visible lm) (16 * g)) (gives_in (visible lm) (16 * g))
-      (ends_in (visible lm) (16 * g)) s.entry.name.turn is.order.guess life turn (sym answer_is ∙ hit) in
+      (ends_in (visible lm) (16 * g)) s.entry.name.turn is.order.guess (life_of f lm valid ends_legal.1 g) turn (sym (search (arith, ends_legal)) ∙ hit) in
       let b : Live = o.0 in
-      let alive : IsLifeOfLive f g word b (gives_in (visible lm) (16 * g)) (ends_in (visible lm) (16 * g)) = rw o.1 at life in
-      let long : length_of b.block ≡ is.order.guess = omega (arith, (sym hit ∙ (answer_is ∙ alive.word_is)), o.3) in
+      let alive : IsLifeOfLive f g word b (gives_in (visible lm) (16 * g)) (ends_in (visible lm) (16 * g)) = rw o.1 at (life_of f lm valid ends_legal.1 g) in
+      let long : length_of b.block ≡ is.order.guess = omega (
+        arith,
+        (sym hit
+            ∙ ((let it : is.order.answer ≡ word_after lm (life_word_at (grain_of s.entry.name)) = search (arith, ends_legal) in it) ∙ alive.word_is)),
+        o.3,
+      ) in
       let some : 1 ≤ is.order.guess = within.3 in
       search (arith, visible_steps k first l ∙ ap (λ (es : List Event). es ++ visible l) (idle.events k (part k l)), ends_legal, guessed, eq-eqb, true≢false)
 

@@ -1,20 +1,19 @@
 -- SLOTS OF A CLASS ARE FETCHED for a request: place is made for a local allocator, in the text too, and from there on the fetch is a request of its own. At the
 -- end: no page serves it, in the text either.
-use Rattle.pas_cache.{specs.{Serves.IsFilling, Changes.LeavesSpent}, proofs.Obtained.may_search}
-use Rattle.pas_same_text.proofs.Common.{filling_for, false_from_ne_true, nat_tests, find, is_set, IsEmpty, IsValid, IsAdmitted, class_home, route_in, room_in}
-use Rattle.pas_same_text.proofs.Common.{Event, NoRoom, Profile, Word, Directory, Route, class_grains_positive, usable_grains_le, triples, events_by, View}
-use Rattle.pas_same_text.proofs.Common.{Whole, part, word_after, Legal, Made, triples_append, no_events, events_append, part_of_own, agreed_steps}
-use Rattle.pas_same_text.proofs.Common.{legal_earlier, MaySearch, AreSearch, IsTrueReason, NoSlot, fewer_slots, Slots, AtRest, StopsFirst, Cached, releasing}
-use Rattle.pas_same_text.proofs.Common.{filling_in, Fetches, IsRefill, IsObtained, IsAnswered, ServesClass, IsLocal, RestsWith, local_for, others_than}
-use Rattle.pas_same_text.proofs.Common.{Said as TheSaid, IsThread, Progress, Named, records_of, said_by, Caches, named, Answer, after_answer, said_of_room}
-use Rattle.pas_same_text.proofs.Common.{Local, World, locals_of, some_of, refusal, refuses, AreResting, IsBetween, serves, is_for, fetches, serves_class_by}
-use Rattle.pas_same_text.proofs.Common.{serves_class, takes_page, IsSame, IsSameLocal, AreSameLocals, ArePagesSame, has_number, HasNoFit, IsRefused}
-use Rattle.pas_same_text.proofs.{Common.refused_told, CacheLists.{same_own, same_again, Finds, found_same, same_many, given_up_keeps, first_up_keeps}}
-use Rattle.pas_same_text.proofs.{SmallActs.after_with, SeatedActs.{cached_again, middle_rest}, BitfitRequests.none_searched, PlacesFit.class_fits}
-use Rattle.pas_same_text.proofs.{Pieces.has_same, SearchedPages.{refused_to, refused_same}, CachedSlots.{HasAsked, answer_reached}, MadePlace.up_to}
-use Rattle.pas_same_text.proofs.MadePlace.{placed_by, place_made, none_same, most_left, known_found}
-use Rattle.std.proofs.Common.{◌≡◌, ℕ, ◌≤◌, ◌<◌, nat_le, Bool, true, false, ◌||◌, List, [], ◌∷◌, ◌++◌, length, Option, None, Some, Result, refl, ap, sym, ◌∙◌}
+use Rattle.std.proofs.Common.{◌==◌, ◌≡◌, ℕ, ◌≤◌, ◌<◌, nat_le, Bool, false, ◌||◌, List, [], ◌∷◌, ◌++◌, length, Option, None, Some, Result, refl, ap, sym, ◌∙◌}
 use Rattle.std.proofs.Common.{subst, append-nil, append_assoc, arith, true≢false, eq-eqb, Ok, Err, inl, inr}
+use Rattle.pas_same_text.proofs.{CacheLists.{again_at, same_own, same_again, Finds, found_same, same_many, given_up_keeps, first_up_keeps}, Common.filling_for}
+use Rattle.pas_same_text.proofs.Common.{false_from_ne_true, nat_tests, find, is_set, IsValid, IsAdmitted, class_home, route_in, room_in, Event, NoRoom, Profile}
+use Rattle.pas_same_text.proofs.Common.{Word, Directory, Route, class_grains_positive, usable_grains_le, triples, events_by, View, Whole, part, word_after}
+use Rattle.pas_same_text.proofs.Common.{Legal, Made, triples_append, no_events, events_append, part_of_own, agreed_steps, legal_earlier, MaySearch, AreSearch}
+use Rattle.pas_same_text.proofs.Common.{IsTrueReason, NoSlot, fewer_slots, Slots, AtRest, StopsFirst, Cached, releasing, filling_in, Fetches, IsRefill}
+use Rattle.pas_same_text.proofs.Common.{IsObtained, IsAnswered, ServesClass, IsLocal, RestsWith, local_for, others_than, Said as TheSaid, IsThread, Progress}
+use Rattle.pas_same_text.proofs.Common.{Named, records_of, said_by, Caches, named, Answer, after_answer, said_of_room, Local, World, locals_of, some_of}
+use Rattle.pas_same_text.proofs.Common.{refusal, refuses, AreResting, IsBetween, serves, is_for, fetches, serves_class_by, serves_class, takes_page, IsSame}
+use Rattle.pas_same_text.proofs.{Common.{ArePagesSame, has_number, HasNoFit, IsRefused, refused_told}, SmallActs.after_with, SeatedActs.middle_rest}
+use Rattle.pas_same_text.proofs.{BitfitRequests.none_searched, PlacesFit.class_fits, Pieces.has_same, SearchedPages.{refused_to, refused_same}}
+use Rattle.pas_same_text.proofs.{CachedSlots.{HasAsked, answer_reached}, MadePlace.{up_to, placed_by, place_made, none_same, most_left, known_found}}
+use Rattle.pas_cache.{specs.{Serves.IsFilling, Changes.LeavesSpent}, proofs.Obtained.may_search}
 
 -- the text once place was made for a local allocator of the heap and class
 abbrev pub with_place : ℕ → ℕ → ℕ → World → World
@@ -129,15 +128,6 @@ module _ (f : Profile) (k heap class : ℕ) (p : Progress) (w : World) (found : 
   place_fetched = search (arith, many_placed, middle, (same_own p.caches k c1), own_rest, placed, none_left, place_left)
 
   -- ---- the text makes it too
-  both_same : AreSameLocals c.locals (locals_of w k)
-  both_same = (o.same.caches.each k o.thread).locals
-
-  -- a local allocator without a slot has none in the text
-  no_slots : (s : Slots) (l : Local) → IsSameLocal s l → IsLocal f (part k p.list) s → IsEmpty s.starts → some_of l.slots ≡ false
-  no_slots s l is known empty = none_some l.slots (λ g. is.slots g ∙ false_from_ne_true (is_set s.starts g) (λ set.
-      let some = class_grains_positive s.class known.class in
-      true≢false (sym set ∙ empty g (omega (arith, (known.starts g set).within, usable_grains_le s.class known.class, some)))))
-
   module _ (name : ℕ) where
     abbrev served_as : Option Local → World
     served_as x = serves_class_by f k name heap class x w
@@ -148,11 +138,15 @@ module _ (f : Profile) (k heap class : ℕ) (p : Progress) (w : World) (found : 
     by_found : (x : Option Slots) → local_for heap class c.locals ≡ x → LeavesSpent x o.fetch.place.spent
         → served_as (find (is_for heap class) (locals_of w k)) ≡ fetched_as (find (is_for heap class) (locals_of w k))
     by_found None none left =
-        let is = none_same heap class c.locals (locals_of w k) both_same none in
+        let is = none_same heap class c.locals (locals_of w k) (o.same.caches.each k o.thread).locals none in
         ap served_as is ∙ ap fetched_as (sym is)
     by_found (Some s) there left =
-        let found : Finds s (find (is_for heap class) (locals_of w k)) = found_same heap class c.locals (locals_of w k) s both_same there in
-        cc (no_slots s found.local found.same (known_found (IsLocal f (part k p.list)) heap class c.locals s own.locals.known there) left.0)
+        let found : Finds s (find (is_for heap class) (locals_of w k)) =
+        found_same heap class c.locals (locals_of w k) s (o.same.caches.each k o.thread).locals there in
+        cc (let known = known_found (IsLocal f (part k p.list)) heap class c.locals s own.locals.known there in
+        none_some found.local.slots (λ g. found.same.slots g ∙ false_from_ne_true (is_set s.starts g) (λ set.
+        let some = class_grains_positive s.class known.class in
+        true≢false (sym set ∙ left.0 g (omega (arith, (known.starts g set).within, usable_grains_le s.class known.class, some))))))
 
     -- The text serves such a request of a class as a fetch from the state in which place was made.
     pub text_fetched : serves_class f k name heap class w ≡ fetches f k name heap class w1
@@ -176,7 +170,8 @@ module _ (f : Profile) (k heap class : ℕ) (p : Progress) (w : World) (found : 
     pub fetch_between : IsBetween f q → IsBetween f q1
     fetch_between after = record {
       legal = subst (Legal f) list_is after.legal;
-      rest = subst (λ (caches : Caches). AreResting f caches p.books q1.list) (sym (cached_again p.caches k c1 new)) (subst (AreResting f q.caches p.books) list_is after.rest);
+      rest = subst (λ (caches : Caches). AreResting f caches p.books q1.list) (sym (λ i j. again_at p.caches j k c1 new (j == k) i))
+          (subst (AreResting f q.caches p.books) list_is after.rest);
     }
 
     events_are : events_by k (part k p.list) (more ++ steps) ≡ events_by k (part k p1.list) (more ++ ys)
@@ -256,9 +251,11 @@ module _ (f : Profile) (k name heap size align class : ℕ) (p : Progress) (a : 
 
   -- ---- none were found
   module _ (room : NoRoom) (is : asked.served.answer ≡ Err room) where
-    by_fetch : (fewer : List Slots) (steps : List Made) → a.cache ≡ record mine { locals = fewer } → a.steps ≡ steps
-        → IsFetched f k heap class p w (Err room) fewer steps → IsSame f (after_answer p k a) (serves_class f k name heap class w)
-    by_fetch fewer steps cache steps_are o =
+    -- A refusal of the search is one of the request.
+    obtained : (fewer : List Slots) (steps : List Made) → a.cache ≡ record mine { locals = fewer } → a.steps ≡ steps
+        → IsObtained (filling_in home class) f mine.locals fewer steps (Err room) → IsSame f (after_answer p k a) (serves_class f k name heap class w)
+    obtained fewer steps cache steps_are (inl cached) = absurd (let bad : Err room ≡ Ok cached.0 = cached.1 in cc)
+    obtained fewer steps cache steps_are (inr fetch) = let o = fetched_so (Err room) fewer steps [] steps_are fetch in
         let p1 : Progress = up_to p k o.fetch.before fewer in
         let w1 : World = with_place k heap class w in
         let said : Option TheSaid = Some (said_of_room name room) in
@@ -271,12 +268,6 @@ module _ (f : Profile) (k name heap size align class : ℕ) (p : Progress) (a : 
         fetch_refused f k name heap class p1 w1 room o.fetch.searched (place_fetched f k heap class p w (Err room) fewer steps o) o.fetch.refill end in
         rw (text_fetched f k heap class p w (Err room) fewer steps o name, to)
         (fetch_carried f k heap class p w (Err room) fewer steps o [] said names (p1.caches k) (fetches f k name heap class w1) ended)
-
-    -- A refusal of the search is one of the request.
-    obtained : (fewer : List Slots) (steps : List Made) → a.cache ≡ record mine { locals = fewer } → a.steps ≡ steps
-        → IsObtained (filling_in home class) f mine.locals fewer steps (Err room) → IsSame f (after_answer p k a) (serves_class f k name heap class w)
-    obtained fewer steps cache steps_are (inl cached) = absurd (let bad : Err room ≡ Ok cached.0 = cached.1 in cc)
-    obtained fewer steps cache steps_are (inr fetch) = by_fetch fewer steps cache steps_are (fetched_so (Err room) fewer steps [] steps_are fetch)
 
     ends_so : (found : Result Slots NoRoom) (fewer : List Slots) (early given : List Made) → a.steps ≡ given ++ early
         → IsObtained (filling_in home class) f mine.locals fewer early found → IsAnswered fewer a.cache.locals given found (Err room)

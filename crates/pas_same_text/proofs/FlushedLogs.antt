@@ -1,19 +1,20 @@
 -- A FLUSH, entry by entry: its steps beside what the text does.
+use Rattle.pas_same_text.proofs.GivenBack.{all_only_hints, after, ended_returns, noted_then, Returns, returns_nothing, returns_then, returns_like, has_both}
+use Rattle.pas_same_text.proofs.{GivenBack.page_there, CacheLists.{all_locals, many_with, locals_with, same_with, same_own, same_again, with_own, room_for}}
+use Rattle.pas_same_text.proofs.{Flushes.{reject_text, end_text, reject_shown, end_shown, reason_is}, EntrySteps.{IsEndOfBlock, found_block, block_marked}}
+use Rattle.pas_same_text.proofs.{EntrySteps.{name_same, entry_kinds, entry_events, entry_hints, after_marked, read_directory}, StepMarks.IsMarked}
+use Rattle.pas_same_text.proofs.{StepMarks.{marked_parts, none_marked, hints_none}, Tests.has_filtered, Common.{take_none, reverse_onto, same_Some, hints_both}}
+use Rattle.pas_same_text.proofs.Common.{meets_page, address_of, grain_of, length_of, IsValid, IsPage, Directory, Event, Name, Profile, Word, Run, Live, live_in}
+use Rattle.pas_same_text.proofs.Common.{deed_in, lives_where, made, triples, Only, Always, epoch_of, Whole, part, visible, Legal, Made, Look, triples_append}
+use Rattle.pas_same_text.proofs.Common.{only_both, only_within, epoch_same, part_of_own, runs, legal_earlier, HintsEmpty, IsEndOf, reason_for, ending, freeing}
+use Rattle.pas_same_text.proofs.Common.{Settled, EntrySteps, AfterEnd, event_for, shown_for, noted_after, Ended, Refused, Entry, EndedRun, Cached, Record}
+use Rattle.pas_same_text.proofs.Common.{IsThread, Caches, with_cache as with_cached, World, Cache, each, cache_of, noted_of, set_log, live_after, ends}
+use Rattle.pas_same_text.{proofs.Common.{ends_block, rejects, pages_of, IsShown, AreSameCaches, IsSameCache, lives_in, has_number}, specs.State.with_cache}
+use Rattle.pas_free_log.{specs.{Flushes.{noted_for, EntriesSteps}, Noted.large_run, declared.ending.Outcome.Outcome}, proofs.AllEntries.noted_more}
+use Rattle.pas_free_log.proofs.AllEntries.{noted_none}
 use Rattle.std.proofs.Common.{◌≡◌, ℕ, ◌-◌, ◌/◌, ◌≤◌, Bool, true, if◌then◌else◌, List, [], ◌∷◌, ◌++◌, length, map, reverse, take, Option, None, Some, inl, inr}
 use Rattle.std.proofs.Common.{refl, ap, sym, ◌∙◌, subst, append_assoc, arith, append-nil, eq-eqb}
 use Rattle.pas_steps.specs.Kinds.{LookEpoch}
-use Rattle.pas_free_log.{specs.{Noted.large_run, Flushes.EntriesSteps, declared.ending.Outcome.Outcome}, proofs.AllEntries.{noted_more, noted_none}}
-use Rattle.pas_same_text.{specs.State.with_cache, proofs.CacheLists.{all_locals, many_with, locals_with, same_with, same_own, same_again, with_own, room_for}}
-use Rattle.pas_same_text.proofs.GivenBack.{rejected_returns, ended_returns, ended_caches, noted_then, Returns, returns_nothing, returns_then, returns_like}
-use Rattle.pas_same_text.proofs.{GivenBack.{has_both, page_there}, Flushes.{reject_text, end_text, reject_shown, end_shown, reason_is}, EntrySteps.IsEndOfBlock}
-use Rattle.pas_same_text.proofs.EntrySteps.{found_block, block_marked, name_same, entry_kinds, entry_events, entry_hints, after_marked, read_directory}
-use Rattle.pas_same_text.proofs.{StepMarks.{IsMarked, marked_parts, none_marked, hints_none}, Tests.has_filtered, Common.{take_none, reverse_onto, same_Some}}
-use Rattle.pas_same_text.proofs.Common.{hints_both, meets_page, address_of, grain_of, length_of, IsValid, IsPage, Directory, Event, Name, Profile, Word, Run}
-use Rattle.pas_same_text.proofs.Common.{Live, live_in, deed_in, lives_where, made, triples, Only, Always, epoch_of, Whole, part, visible, Legal, Made, Look}
-use Rattle.pas_same_text.proofs.Common.{triples_append, only_both, only_within, epoch_same, part_of_own, runs, legal_earlier, HintsEmpty, IsEndOf, reason_for}
-use Rattle.pas_same_text.proofs.Common.{ending, freeing, Settled, EntrySteps, AfterEnd, event_for, shown_for, noted_for, noted_after, Ended, Refused, Entry}
-use Rattle.pas_same_text.proofs.Common.{EndedRun, Cached, Record, IsThread, Caches, with_cache as with_cached, World, Cache, each, cache_of, noted_of, set_log}
-use Rattle.pas_same_text.proofs.Common.{live_after, ends, ends_block, rejects, pages_of, IsShown, AreSameCaches, IsSameCache, lives_in, has_number}
 
 -- ---- lists of entries
 each_last : {A : Type 0} (does : A → World → World) (xs : List A) (x : A) (w : World) → each does (xs ++ x ∷ []) w ≡ does x (each does xs w)
@@ -39,10 +40,6 @@ pub record OnlyFewer (es es' : List Event) : Type 0 where
 -- an end takes out one block, and a refusal none
 still_gone : (k epoch : ℕ) (entry : Entry) (o : Outcome) (es : List Event) (a : ℕ) → live_in es a ≡ None → live_in (event_for k epoch entry o ∷ es) a ≡ None
 still_gone k epoch entry o es a h = search arith
-
--- no event of an entry gives a block
-fewer_one : (k epoch : ℕ) (entry : Entry) (o : Outcome) (es : List Event) → OnlyFewer es (event_for k epoch entry o ∷ es)
-fewer_one k epoch entry o es = search arith
 
 -- ==== HOW FAR A FLUSH IS: from the state w and the list l on, these entries took effect by these steps, and the text is at v
 pub record IsFlushedTo (f : Profile) (k e : ℕ) (l : Whole) (w : World) (c : Cached) (caches : Caches) (settled : List Settled) (steps : List Made)
@@ -152,14 +149,6 @@ module _ (f : Profile) (k epoch : ℕ) (s : Settled) (piece : List Made) (l : Wh
         ended_none : live_in (Event.End k s.entry.name epoch ∷ v.events) (address_of s.entry.name) ≡ None
         ended_none = ap (λ (t : Bool). if t then None else live_in v.events (address_of s.entry.name)) (eq-eqb _ _ refl)
 
-    ended_taken : IsTakenBy f k s piece v x (own_then s v k)
-    ended_taken = subst (λ (w : World). IsTakenBy f k s piece v w (own_then s v k)) (sym text) (record {
-      pages = pages_of f found.block.block;
-      returns = ended_returns f k s.entry.name found.block v run_after.1 live lives;
-      caches = cc (ended_caches f k s.entry.name found.block v run_after.1 live lives, noted_same);
-      marks = marked;
-    })
-
   module _ (read : ℕ) (outcome : s.outcome ≡ Refused read) where
     run_rejected : Run f (event_for k epoch s.entry (Refused read) ∷ v.events)
     run_rejected = subst (λ (o : Outcome). Run f (event_for k epoch s.entry o ∷ v.events)) outcome run_after
@@ -174,19 +163,26 @@ module _ (f : Profile) (k epoch : ℕ) (s : Settled) (piece : List Made) (l : Wh
     none_noted = ap (λ (runs : List EndedRun). record (cache_of v k) { noted = runs })
         (cc (take_none (64 - length (noted_of v k)), append-nil (noted_of v k)))
 
-    rejected_taken : IsTakenBy f k s piece v x (own_then s v k)
-    rejected_taken = search (arith, rejected_text, rejected_returns, none_noted, with_own, no_mark)
-
   taken_by : (o : Outcome) → s.outcome ≡ o → IsShown (event_for k epoch s.entry o) v x × IsTakenBy f k s piece v x (own_then s v k)
-  taken_by (Ended grains) outcome = (ended_shown grains outcome, ended_taken grains outcome)
-  taken_by (Refused read) outcome =
-      (reject_shown f k s.entry v live (reason_for s.entry read) run_after.1 (run_rejected read outcome).0.1 (reason_is s.entry read), rejected_taken read outcome)
+  taken_by (Ended grains) outcome = (
+    ended_shown grains outcome,
+    subst (λ (w : World). IsTakenBy f k s piece v w (own_then s v k)) (sym (text grains outcome)) (record {
+      pages = pages_of f (found grains outcome).block.block;
+      returns = ended_returns f k s.entry.name (found grains outcome).block v run_after.1 live (lives grains outcome);
+      caches = cc (
+        (all_only_hints (pages_of f (found grains outcome).block.block)
+            (after f k s.entry.name (found grains outcome).block v run_after.1 live (lives grains outcome))).caches,
+        noted_same grains outcome,
+      );
+      marks = marked grains outcome;
+    }),
+  )
+  taken_by (Refused read) outcome = (
+    reject_shown f k s.entry v live (reason_for s.entry read) run_after.1 (run_rejected read outcome).0.1 (reason_is s.entry read),
+    search (arith, rejected_text read outcome, none_noted read outcome, with_own, no_mark read outcome),
+  )
 
 -- ---- the marks so far
-still_ended : (es fs gs : List Event) (ps qs : List ℕ) (q : ℕ) → ((a : ℕ) → live_in fs a ≡ None → live_in gs a ≡ None) → IsEndedOn es fs ps q
-    → IsEndedOn es gs (ps ++ qs) q
-still_ended es fs gs ps qs q stays o = search (arith, has_both)
-
 ended_since : (es fs gs : List Event) (ps qs : List ℕ) (q : ℕ) → OnlyFewer es fs → IsEndedOn fs gs qs q → IsEndedOn es gs (ps ++ qs) q
 ended_since es fs gs ps qs q fewer o = search (arith, has_both)
 
@@ -209,7 +205,8 @@ module _ (f : Profile) (k epoch : ℕ) (l : Whole) (w : World) (c : Cached) (cac
       let new_same : IsSameCache new (own_then s v k) = record { locals = own_same.locals; log = own_same.log; noted = noted; idle_since = own_same.idle_since } in
       let x : World = ends f k s.entry v in
       let stays : (a : ℕ) → live_in v.events a ≡ None → live_in x.events a ≡ None = λ a h. simp (shown.events, still_gone) in
-      let less : OnlyFewer v.events x.events = subst (OnlyFewer v.events) (sym shown.events) (fewer_one k epoch s.entry s.outcome v.events) in
+      -- no event of an entry gives a block
+      let less : OnlyFewer v.events x.events = subst (OnlyFewer v.events) (sym shown.events) (search arith) in
       let all : triples k piece ++ before ≡ triples k (piece ++ steps) ++ l = triples_append k piece steps l in
       record {
         events = cc (entry_events f k epoch s piece before valid legal is was.known);
@@ -227,7 +224,7 @@ module _ (f : Profile) (k epoch : ℕ) (l : Whole) (w : World) (c : Cached) (cac
         fewer = record { lives = λ at l h. was.fewer.lives at l (less.lives at l h); deeds = λ page. less.deeds page ∙ was.fewer.deeds page };
         marks = λ q of mark. elim (marked_parts q piece steps mark) [
           | inl here ↦ ended_since w.events v.events x.events was.pages taken.pages q was.fewer (taken.marks q of here)
-          | inr earlier ↦ still_ended w.events v.events x.events was.pages taken.pages q stays (was.marks q of earlier)
+          | inr earlier ↦ search (arith, has_both)
         ];
         kinds = only_both freeing piece steps (only_within ending freeing piece refl (entry_kinds f k epoch s piece before valid legal is was.known)) was.kinds;
         hints = hints_both piece steps (entry_hints f k epoch s piece before valid legal is was.known) was.hints;

@@ -1,15 +1,15 @@
 -- What logged frees and flushes show: the events that the machine allows them.
-use Rattle.pas_same_text.proofs.{FreeGrains.{block_of_live, found_is}, Tests.{and_first, and_second}, GivenBack.{OnlyHints, all_only_hints}, Common.and_from}
-use Rattle.pas_same_text.proofs.Common.{nat_tests, not-true, reverse_onto, reverse-reverse, find, address_of, Event, Why, Block, Name, Profile, Word, Run, Live}
-use Rattle.pas_same_text.proofs.Common.{live_in, gives_in, ends_in, Entry, EndedRun, is_sized, event_for, Settled, shown_for, reason_for, World, each, is_at}
-use Rattle.pas_same_text.proofs.Common.{shows, live_after, set_log, notes, lives_in, pages_of, is_other_room, ends_block, rejects, ends, flushes, IsShown, made}
+use Rattle.pas_same_text.proofs.{FreeGrains.{block_of_live, found_is}, Tests.{and_first, and_second}, GivenBack.{OnlyHints, all_only_hints}, Common.nat_tests}
+use Rattle.pas_same_text.proofs.Common.{not-true, reverse_onto, reverse-reverse, find, address_of, Event, Why, Block, Profile, Word, Run, Live, live_in}
+use Rattle.pas_same_text.proofs.Common.{gives_in, ends_in, Entry, EndedRun, is_sized, event_for, Settled, shown_for, reason_for, World, each, is_at, shows}
+use Rattle.pas_same_text.proofs.Common.{live_after, set_log, notes, lives_in, pages_of, is_other_room, ends_block, rejects, ends, flushes, IsShown, made}
 use Rattle.pas_same_text.proofs.Common.{triple, triples, event_of, events_by, with_event, View, epoch_of, Whole, part, visible, Legal, Made, Look, Kinds, Only}
-use Rattle.pas_same_text.{proofs.Common.{apart, showing, triples_append, part_of_own, no_events, runs, legal_earlier}, specs.{State.block_at, Frees.reason}}
+use Rattle.pas_same_text.{proofs.Common.{apart, showing, triples_append, part_of_own, no_events, runs}, specs.{State.block_at, Frees.reason}}
 use Rattle.pas_same_text.specs.Entries.{IsEntryReason, IsEntryEvent, HaveOutcomes, are_unsized, onto, events_of_flush, HasShown, IsFlushOf}
-use Rattle.std.proofs.Common.{◌≡◌, ℕ, ◌<◌, ◌==◌, Bool, true, false, not, if◌then◌else◌, List, [], ◌∷◌, Option, Some, refl, ap, sym, ◌∙◌, subst, arith, eq-eqb}
-use Rattle.std.proofs.{Common.{ne_eqb, ◌++◌, map, reverse, append_assoc}, lemmas.List.map_push}
+use Rattle.std.proofs.Common.{◌≡◌, ℕ, ◌<◌, ◌==◌, true, false, not, if◌then◌else◌, List, [], ◌∷◌, Option, Some, refl, ap, sym, ◌∙◌, subst, arith, eq-eqb, ne_eqb}
+use Rattle.std.proofs.{Common.{◌++◌, map, reverse, append_assoc}, lemmas.List.map_push}
 use Rattle.pas_machine.{specs.{Laws.IsCounted, Machine.{IsLive, IsReason, HasOtherRoom}}, proofs.LiveBlocks.all_counted}
-use Rattle.pas_free_log.specs.{declared.ending.Outcome.Outcome, Endings.reason_by}
+use Rattle.pas_free_log.specs.declared.ending.Outcome.{Outcome}
 use Rattle.pas_guard.proofs.Keepers.{older_legal}
 use Rattle.pas_steps.proofs.Frames.{with_append}
 
@@ -29,17 +29,9 @@ rejected : (f : Profile) (k : ℕ) (entry : Entry) (w : World) (o : Option Live)
     → ((b : Live) → o ≡ Some b → (b.block.name.turn == entry.name.turn) ≡ false) → ends f k entry w ≡ rejects k entry.name (reason w entry.name) w
 rejected f k entry w o live is other = search (arith, block_here)
 
-reason_ended : (w : World) (name : Name) → name.turn < ends_in w.events (address_of name) → reason w name ≡ Why.Ended
-reason_ended w name past = search (arith, nat_tests)
-
 -- a block that lives has as its turn the number of blocks that ended there
 turn_of_live : (f : Profile) (es : List Event) (a : ℕ) (b : Live) → Run f es → live_in es a ≡ Some b → b.block.name.turn ≡ ends_in es a
 turn_of_live f es a b run is = let counted : IsCounted (Some b) (gives_in es a) (ends_in es a) = rw is at (all_counted f es run a) in counted.1
-
-lives_text : (f : Profile) (k : ℕ) (entry : Entry) (w : World) (b : Live) (t : Bool) → w.live ≡ lives_in w.events
-    → live_in w.events (address_of entry.name) ≡ Some b → b.block.name.turn ≡ entry.name.turn → is_other_room entry b.block ≡ t
-    → ends f k entry w ≡ (if t then rejects k entry.name (Why.SizeDiffers entry.room) w else ends_block f k entry.name b.block w)
-lives_text f k entry w b t live is turn room = search (arith, block_here, eq-eqb)
 
 -- ---- THE EVENT of a logged free
 as_shown : (e : Event) (w v x : World) → v ≡ x → IsShown e w x → IsShown e w v
@@ -52,17 +44,18 @@ module _ (f : Profile) (k : ℕ) (entry : Entry) (w : World) (live : w.live ≡ 
       rejected f k entry w _ live refl (λ b at.
       ne_eqb b.block.name.turn entry.name.turn (λ same. let turn : b.block.name.turn ≡ ends_in w.events (address_of entry.name) =
       turn_of_live f w.events _ b run at in absurd (omega (arith, past, same, turn))))
-      ∙ ap (λ (x : Why). rejects k entry.name x w) (reason_ended w entry.name past)
+      ∙ ap (λ (x : Why). rejects k entry.name x w) (search (arith, nat_tests))
   reject_text Why.NoBlock run none is = search (arith, rejected, ne_eqb)
   reject_text (Why.SizeDiffers room) run other is =
       let o : HasOtherRoom w.events entry.name room = other.1 in
       let differs : not (o.block.block.room == entry.room) ≡ true = ap not (ne_eqb o.block.block.room entry.room (λ same. o.differs (same ∙ sym is.1))) in
-      cc (lives_text f k entry w o.block true live o.lives o.turn_is (and_from (is_sized entry) (not (o.block.block.room == entry.room)) is.0 differs))
+      let lives_text : ends f k entry w ≡ (if true then rejects k entry.name (Why.SizeDiffers entry.room) w else ends_block f k entry.name o.block.block w) =
+      search (arith, block_here, eq-eqb) in cc (lives_text)
 
   -- A logged free of a live block by its own name and room ends that block in the text.
   pub end_text : (b : Live) → live_in w.events (address_of entry.name) ≡ Some b → b.block.name.turn ≡ entry.name.turn → is_other_room entry b.block ≡ false
       → ends f k entry w ≡ ends_block f k entry.name b.block w
-  end_text b lives turn room = lives_text f k entry w b false live lives turn room
+  end_text b lives turn room = search (arith, block_here, eq-eqb)
 
   -- A logged free with a true reason to refuse it shows just that refusal.
   pub reject_shown : (why : Why) → Run f w.events → IsReason w.events entry.name why → IsEntryReason entry why
@@ -86,18 +79,9 @@ module _ (f : Profile) (k : ℕ) (entry : Entry) (w : World) (live : w.live ≡ 
 
 -- ==== What a flush shows: one event for each logged free, in the order of the log.
 -- ---- one
--- by cases of the test
-reason_sized : (t : Bool) (entry : Entry) (read : ℕ) → is_sized entry ≡ t → IsEntryReason entry (reason_by t entry read)
-reason_sized t entry read sized = search arith
-
 -- The reason that a read life word gives is one that the entry may have.
 pub reason_is : (entry : Entry) (read : ℕ) → IsEntryReason entry (reason_for entry read)
-reason_is entry read = reason_sized (is_sized entry) entry read refl
-
--- whatever came of a free without a room, its event is one that the text knows
-entry_event : (k epoch : ℕ) (entry : Entry) (outcome : Outcome) (w : World) → is_sized entry ≡ false → w.epoch ≡ epoch
-    → IsEntryEvent k entry w (event_for k epoch entry outcome)
-entry_event k epoch entry outcome w unsized now = search (arith, reason_is)
+reason_is entry read = search arith
 
 -- ---- all
 run_before : (f : Profile) (evs es : List Event) → Run f (onto evs es) → Run f es
@@ -115,7 +99,7 @@ flush_shown f k epoch (entry ∷ entries) (o ∷ outcomes) w pairs unsized live 
     let own : is_sized entry ≡ false = not-true (is_sized entry) (and_first _ _ unsized) in
     let rest : are_unsized entries ≡ true = and_second _ _ unsized in
     let v : World = ends f k entry w in
-    let one : IsShown e w v = entry_shown f k entry w live e (run_before f evs (e ∷ w.events) run) (entry_event k epoch entry o w own now) in
+    let one : IsShown e w v = entry_shown f k entry w live e (run_before f evs (e ∷ w.events) run) (search (arith, reason_is)) in
     let alive : v.live ≡ lives_in v.events = one.live ∙ (ap (live_after e) live ∙ ap lives_in (sym one.events)) in
     let more : HasShown evs v (each (ends f k) entries v) =
     flush_shown f k epoch entries outcomes v pairs rest alive (one.epoch ∙ now) (subst (λ (es : List Event). Run f (onto evs es)) (sym one.events) run) in
@@ -159,11 +143,6 @@ visible_steps k (m ∷ steps) l =
     ∙ (ap (with_event (event_of k (epoch_of (steps ++ part k l)) m.step m.answer)) (visible_steps k steps l)
     ∙ with_append (event_of k (epoch_of (steps ++ part k l)) m.step m.answer) (events_by k (part k l) steps) (visible l))
 
--- steps between others are legal where they were made
-pub legal_between : (f : Profile) (k : ℕ) (after steps before : List Made) (l : Whole) → Legal f (triples k (after ++ (steps ++ before)) ++ l)
-    → Legal f (triples k steps ++ (triples k before ++ l))
-legal_between f k after steps before l legal = subst (Legal f) (sym (triples_append k steps before l)) (legal_earlier f k after (steps ++ before) l legal)
-
 -- Steps of kinds that make no event leave what a list shows as it was.
 pub unshown : (ks : Kinds) → apart ks showing ≡ true → (k : ℕ) (steps : List Made) (l : Whole) → Only ks steps → visible (triples k steps ++ l) ≡ visible l
 unshown ks w k steps l only = visible_steps k steps l ∙ ap (λ (es : List Event). es ++ visible l) (no_events ks w k (part k l) steps only)
@@ -177,17 +156,6 @@ module _ (f : Profile) (k : ℕ) (logged : List Entry) (noted noted' : List Ende
   logged_are : logged ≡ entries_of in_order
   logged_are = sym is.empties.entries_are ∙ sym (map_reverse (λ (s : Settled). s.entry) is.empties.settled)
 
-  -- the epoch of the flush is that of the text
-  look_legal : Legal f (triples k (is.empties.entries ++ (made (Look Word.Epoch) is.empties.epoch ∷ [])) ++ l)
-  look_legal = subst (λ (ms : List Made). Legal f (triples k ms ++ l)) is.empties.steps_are is.legal
-
-  epoch_now : w.epoch ≡ is.empties.epoch
-  epoch_now =
-      let at : Legal f (triple k (made (Look Word.Epoch) is.empties.epoch) ∷ l) =
-      older_legal f (triples k is.empties.entries) (triple k (made (Look Word.Epoch) is.empties.epoch) ∷ l)
-      (subst (Legal f) (sym (triples_append k is.empties.entries (made (Look Word.Epoch) is.empties.epoch ∷ []) l)) look_legal) in
-      is.epoch ∙ sym at.0.answer_is
-
   abbrev shown : List Event
   shown = events_of_flush k is.empties.epoch (entries_of in_order) (outcomes_of in_order)
 
@@ -197,20 +165,22 @@ module _ (f : Profile) (k : ℕ) (logged : List Entry) (noted noted' : List Ende
       ∙ (onto_is (map (shown_for k is.empties.epoch) in_order) es
       ∙ ap (λ (evs : List Event). evs ++ es) (ap reverse (map_reverse _ is.empties.settled) ∙ reverse-reverse _))
 
-  all_shown : visible (triples k steps ++ l) ≡ onto shown w.events
-  all_shown = search (arith, visible_steps, shown_are)
-
   text_shown : HasShown shown (set_log k [] w) (each (ends f k) (entries_of in_order) (set_log k [] w))
   text_shown = flush_shown f k is.empties.epoch (entries_of in_order) (outcomes_of in_order) (set_log k [] w) (paired in_order)
-      (subst (λ (es : List Entry). are_unsized es ≡ true) logged_are is.unsized) is.live epoch_now
-      (subst (Run f) all_shown (runs f (triples k steps ++ l) is.valid is.legal))
+      (subst (λ (es : List Entry). are_unsized es ≡ true) logged_are is.unsized) is.live (let at : Legal f
+      (triple k (made (Look Word.Epoch) is.empties.epoch) ∷ l) =
+      older_legal f (triples k is.empties.entries) (triple k (made (Look Word.Epoch) is.empties.epoch) ∷ l)
+      (subst (Legal f) (sym (triples_append k is.empties.entries (made (Look Word.Epoch) is.empties.epoch ∷ []) l))
+      (subst (λ (ms : List Made). Legal f (triples k ms ++ l)) is.empties.steps_are is.legal)) in
+      is.epoch ∙ sym at.0.answer_is)
+      (subst (Run f) (search (arith, visible_steps, shown_are)) (runs f (triples k steps ++ l) is.valid is.legal))
 
   flushed_is : flushes f k w ≡ each (ends f k) (entries_of in_order) (set_log k [] w)
   flushed_is = ap (λ (es : List Entry). each (ends f k) es (set_log k [] w)) (is.log ∙ logged_are)
 
   -- After a flush the text's events are those that its steps show in the replay.
   pub flush_events : (flushes f k w).events ≡ visible (triples k steps ++ l)
-  flush_events = ap (λ (v : World). v.events) flushed_is ∙ (text_shown.events ∙ sym all_shown)
+  flush_events = ap (λ (v : World). v.events) flushed_is ∙ (text_shown.events ∙ sym (search (arith, visible_steps, shown_are)))
 
   -- After a flush the live blocks of the text are those that live by its events.
   pub flush_lives : (flushes f k w).live ≡ lives_in (flushes f k w).events

@@ -37,16 +37,6 @@ here k block es p some so =
       so = so;
     }
 
--- a block that may be given begins where no other lives
-elsewhere : (f : Profile) (es : List Event) (block : Block) (p : Block → Bool) (o : LivesSo es p) → MayGive f es block → 0 < length_of block
-    → address_of block.name ≢ o.address
-elsewhere f es block p o may some same =
-    let first : ℕ = o.address / 16 in
-    let own : in_run (o.address / 16) (length_of o.live.block) first ≡ true = first_of_run first (length_of o.live.block) o.some in
-    let meets : in_run (grain_of block.name) (length_of block) (grain_of block.name) ≡ true = first_of_run (grain_of block.name) (length_of block) some in
-    let is : grain_of block.name ≡ first = ap (λ (a : ℕ). a / 16) same in
-    true≢false (sym meets ∙ (ap (in_run (grain_of block.name) (length_of block)) is ∙ (may.clear o.address o.live o.lives first own)))
-
 -- A block lives on after the give of another.
 there : (k : ℕ) (block : Block) (es : List Event) (p : Block → Bool) (o : LivesSo es p) → address_of block.name ≢ o.address
     → LivesSo (Event.Give k block ∷ es) p
@@ -57,15 +47,15 @@ ended : (k : ℕ) (name : Name) (e : ℕ) (es : List Event) (p : Block → Bool)
     → LivesSo (Event.End k name e ∷ es) p
 ended k name e es p o = search (arith, not-true, and_first, eqb-false, ne_eqb, and_second)
 
--- .. after an event that gives and ends none
-still : (e : Event) (es : List Event) (p : Block → Bool) (o : LivesSo es p) → live_in (e ∷ es) o.address ≡ live_in es o.address → LivesSo (e ∷ es) p
-still e es p o same = record { address = o.address; live = o.live; lives = same ∙ o.lives; at = o.at; some = o.some; so = o.so }
-
 given_one : (f : Profile) (k : ℕ) (block : Block) (es : List Event) (p : Block → Bool) → MayGive f es block → 0 < length_of block
     → (list_any p (lives_in es) ≡ true → LivesSo es p)
     → (p block ≡ true) ⊎ (list_any p (lives_in es) ≡ true) → LivesSo (Event.Give k block ∷ es) p
 given_one f k block es p may some older (inl so) = here k block es p some so
-given_one f k block es p may some older (inr more) = let o = older more in there k block es p o (elsewhere f es block p o may some)
+given_one f k block es p may some older (inr more) = let o = older more in there k block es p o (λ same. let first : ℕ = o.address / 16 in
+    let own : in_run (o.address / 16) (length_of o.live.block) first ≡ true = first_of_run first (length_of o.live.block) o.some in
+    let meets : in_run (grain_of block.name) (length_of block) (grain_of block.name) ≡ true = first_of_run (grain_of block.name) (length_of block) some in
+    let is : grain_of block.name ≡ first = ap (λ (a : ℕ). a / 16) same in
+    true≢false (sym meets ∙ (ap (in_run (grain_of block.name) (length_of block)) is ∙ (may.clear o.address o.live o.lives first own))))
 
 -- a block in the list lives, at its address
 pub lives_so : (f : Profile) (es : List Event) (p : Block → Bool) → Run f es → list_any p (lives_in es) ≡ true → LivesSo es p
@@ -73,7 +63,8 @@ lives_so f [] p run h = absurd (false≢true h)
 lives_so f (Event.Give k block ∷ es) p run h = given_one f k block es p run.0 (some_grain block.room run.0.whole run.0.some) (lives_so f es p run.1) (or_cases (p block) _ h)
 lives_so f (Event.End k name e ∷ es) p run h =
     ended k name e es p (lives_so f es (λ x. not (is_at (address_of name) x) && p x) run.1 (any_filtered p (λ x. not (is_at (address_of name) x)) _ h))
-lives_so f (e ∷ es) p run h = still e es p (lives_so f es p run.1 h) refl
+lives_so f (e ∷ es) p run h = let o = lives_so f es p run.1 h in
+    record { address = o.address; live = o.live; lives = refl ∙ o.lives; at = o.at; some = o.some; so = o.so }
 
 -- ---- from the machine to the list: the block at an address
 abbrev pub block_of_live : Option Live → Option Block
@@ -170,9 +161,6 @@ pub free_uncovered : (f : Profile) (l : Whole) → IsValid f → Legal f l → (
 free_uncovered f l valid legal g free address b lives of = search (arith, in_one_place, true≢false)
 
 module _ (f : Profile) (p : Progress) (between : IsBetween f p) where
-  outer_thread : (k page : ℕ) → is_outer (p.books k) page ≡ true → IsThread f k
-  outer_thread k page h = search (arith, thread_or, false≢true)
-
   -- who holds a grain is an actor of the region, and so is who has a right
   pub holder_thread : (k g : ℕ) → holds (part k p.list) g ≡ true → IsThread f k
   holder_thread k g h = thread_or f k
@@ -185,7 +173,7 @@ module _ (f : Profile) (p : Progress) (between : IsBetween f p) where
 
   -- A keeper holds each grain of the outer pages of its guards.
   pub outer_held : (k g : ℕ) → is_outer (p.books k) (g / 256) ≡ true → holds (part k p.list) g ≡ true
-  outer_held k g h = (between.rest.working k (outer_thread k (g / 256) h)).locals.grains g ∙ or_right _ _ h
+  outer_held k g h = (between.rest.working k (search (arith, thread_or, false≢true))).locals.grains g ∙ or_right _ _ h
 
   -- A grain that an actor holds is of a slot that it caches or of an outer page of one of its guards.
   pub held_by : (k g : ℕ) → holds (part k p.list) g ≡ true → (any_covers (p.caches k).locals g ≡ true) ⊎ (is_outer (p.books k) (g / 256) ≡ true)
@@ -193,7 +181,7 @@ module _ (f : Profile) (p : Progress) (between : IsBetween f p) where
 
   -- No actor has both a cached slot and a guard.
   pub never_both : (k g page : ℕ) → any_covers (p.caches k).locals g ≡ true → is_outer (p.books k) page ≡ true → ⊥
-  never_both k g page cached outer = search (arith, outer_thread, false≢true)
+  never_both k g page cached outer = search (arith, thread_or, false≢true)
 
 -- a grain that is held after an act whose actor keeps no guard was held before, where its cache had it then
 pub held_still : (f : Profile) (p p' : Progress) → IsBetween f p → IsBetween f p' → p'.books ≡ p.books → (j g : ℕ)
@@ -215,12 +203,6 @@ abbrev has_on : ℕ → ℕ → Block → Bool
 has_on page g x = meets page x && has_here g x
 
 module _ (f : Profile) (p : Progress) (w : World) (valid : IsValid f) (between : IsBetween f p) (same : HasSame f p w) where
-  -- who has a right is a thread
-  righted_is : (k page : ℕ) → has_right (part k p.list) page ≡ true → IsThread f k
-  righted_is k page h = thread_or f k
-      (λ zero. false≢true (sym (between.rest.scavenger.rights page) ∙ (ap (λ (j : ℕ). has_right (part j p.list) page) (sym zero) ∙ h)))
-      (λ past. false≢true (ap (λ (v : View). has_right v page) (sym (no_other_actor f p.list between.legal k past)) ∙ h))
-
   -- ---- live blocks
   live_is : w.live ≡ lives_in (visible p.list)
   live_is = same.live ∙ ap lives_in same.events
@@ -256,9 +238,6 @@ module _ (f : Profile) (p : Progress) (w : World) (valid : IsValid f) (between :
       let is : IsThread f o.k = (o.first, omega (arith, same.caches.few, o.last)) in
       nobody o.k (sym (cache_grains o.k page b small is) ∙ o.so) is)
 
-  cached_some : (k page b : ℕ) → b < 256 → IsThread f k → any_covers (p.caches k).locals (256 * page + b) ≡ true → is_cached (locals_on w page) b ≡ true
-  cached_some k page b small is h = any_cached w.caches page b (in_all w.caches k (has_grain page b) (cache_grains k page b small is ∙ h))
-
   -- ---- guards: the grains of an outer page are its keeper's
   guarded_held : (page b : ℕ) → b < 256 → is_guarded w page ≡ true
       → (k : ℕ) × (is_outer (p.books k) page ≡ true) × (holds (part k p.list) (256 * page + b) ≡ true)
@@ -282,7 +261,10 @@ module _ (f : Profile) (p : Progress) (w : World) (valid : IsValid f) (between :
           let is : IsThread f held.actor = holder_thread f p between held.actor _ (held.holder held.actor ∙ eq-eqb held.actor held.actor refl) in
           let unguarded : is_guarded w page ≡ false = false_from_ne_true (is_guarded w page) (λ h.
           let o = guarded_held page b small h in never_both f p between held.actor _ page cached (rw (alone o.0 o.2) o.1)) in
-          cc (cached_some held.actor page b small is cached, and-false (not (is_covered (blocks_on w page) (256 * page + b))))
+          cc (
+            any_cached w.caches page b (in_all w.caches held.actor (has_grain page b) (cache_grains held.actor page b small is ∙ cached)),
+            and-false (not (is_covered (blocks_on w page) (256 * page + b))),
+          )
 
       -- a keeper holds it: no block covers it, no cache has it, and its page is an outer one
       in_book : is_outer (p.books held.actor) page ≡ true → is_free w page b ≡ (free_bit p.list (256 * page + b) || is_guarded w page)
@@ -324,20 +306,20 @@ all_kept (s ∷ slots) (l ∷ locals) page same = search (arith, and_comm, all_k
 all_kept slots locals page same = absurd same
 
 module _ (f : Profile) (p : Progress) (w : World) (valid : IsValid f) (between : IsBetween f p) (same : HasSame f p w) where
-  cache_keeps : (k page : ℕ) → IsThread f k → list_any (keeps_page page) (cache_in w.caches k).locals ≡ has_right (part k p.list) page
-  cache_keeps k page is = search (arith, all_kept)
-
   -- a page that is kept is in some thread's hands
   pub keeper : (page : ℕ) → is_kept w page ≡ true → (k : ℕ) × (has_right (part k p.list) page ≡ true)
   keeper page h =
       let o : IsOfCache w.caches (keeps_page page) = of_cache w.caches _ (any_filtered (λ l. l.keeps) (λ l. l.page == page) _ h) in
-      (o.k, sym (cache_keeps o.k page ((o.first, omega (arith, o.last, same.caches.few)))) ∙ o.so)
+      (o.k, sym (search (arith, all_kept)) ∙ o.so)
 
   -- A page whose right some actor has is kept by a local allocator in the text.
   pub kept_by : (k page : ℕ) → has_right (part k p.list) page ≡ true → is_kept w page ≡ true
   kept_by k page h =
-      let is : IsThread f k = righted_is f p w valid between same k page h in
-      filtered_any (λ l. l.keeps) (λ l. l.page == page) (all_locals w.caches) (in_all w.caches k (keeps_page page) (cache_keeps k page is ∙ h))
+      let is : IsThread f k = thread_or f k
+      (λ zero. false≢true (sym (between.rest.scavenger.rights page) ∙ (ap (λ (j : ℕ). has_right (part j p.list) page) (sym zero) ∙ h)))
+      (λ past. false≢true (ap (λ (v : View). has_right v page) (sym (no_other_actor f p.list between.legal k past)) ∙ h)) in
+      filtered_any (λ l. l.keeps) (λ l. l.page == page) (all_locals w.caches) (in_all w.caches k (keeps_page page)
+      ((let it : list_any (keeps_page page) (cache_in w.caches k).locals ≡ has_right (part k p.list) page = search (arith, all_kept) in it) ∙ h))
 
   -- a page that isn't kept is in nobody's hands
   pub nobody_keeps : (page : ℕ) → is_kept w page ≡ false → NobodyHasRight p.list page

@@ -3,14 +3,14 @@ use Rattle.std.proofs.Common.{arith, ◌≡◌, ℕ, ◌==◌, Bool, true, false
 use Rattle.std.proofs.Common.{true≢false, eq-eqb, eqb-true, zero, suc, ◌+◌, ◌<◌, ◌≤◌, ◌&&◌, ◌||◌, if◌then◌else◌, inl, inr, ◌*◌, nat_lt, length, Some}
 use Rattle.std.proofs.lemmas.Bool.{or_parts}
 use Rattle.pas_guard.specs.Books.{AreApart}
-use Rattle.pas_same_text.{specs.{State.with_cache, Pages.{each_of, is_free_of}, Guards.without_guard, Indexes.run_of}, proofs.Common.{Raised, nat_tests}}
-use Rattle.pas_same_text.proofs.Common.{list_any-append, or-false, false≢true, or_cases, or_left, false_from_ne_true, cases_eq, and_from, list_any, filter}
-use Rattle.pas_same_text.proofs.Common.{IsPage, grain_of, length_of, address_of, Profile, Block, Event, Why, Name, Record, Said, is_outer_of, is_outer, Guard}
-use Rattle.pas_same_text.proofs.Common.{World, each, Local, is_at, shows, cache_of, noted_of, is_guarded, minds, is_free, is_empty, is_hinted, page_numbers}
-use Rattle.pas_same_text.proofs.Common.{is_covered, is_cached, blocks_on, locals_on, lowers, raised_by, has_number, lives_in, notes, pages_of, ends_block}
-use Rattle.pas_same_text.proofs.{Common.{rejects, meets_page, in_run, backed_in, Run, Live, live_in, numbers_from, same_truth, EndedRun}, FreeGrains.has_outer}
-use Rattle.pas_same_text.proofs.{FreeGrains.{LivesSo, lives_so}, SmallActs.records_next, CacheLists.{same_guards, minds_keep, all_locals, locals_with}}
-use Rattle.pas_same_text.proofs.Tests.{and_first, and_second, any_filtered, filtered_any, any_weaker, any_split, filtered_has, has_filtered}
+use Rattle.pas_same_text.{specs.{Pages.{each_of, is_free_of}, Guards.without_guard, Indexes.run_of}, proofs.Common.{Raised, nat_tests, list_any-append}}
+use Rattle.pas_same_text.proofs.Common.{or-false, false≢true, or_cases, or_left, false_from_ne_true, cases_eq, and_from, list_any, filter, IsPage, grain_of}
+use Rattle.pas_same_text.proofs.Common.{length_of, address_of, Profile, Block, Event, Name, Record, Said, is_outer_of, is_outer, Guard, World, each, Local}
+use Rattle.pas_same_text.proofs.Common.{is_at, shows, cache_of, noted_of, is_guarded, minds, is_free, is_empty, is_hinted, page_numbers, is_covered, is_cached}
+use Rattle.pas_same_text.proofs.Common.{blocks_on, locals_on, lowers, raised_by, has_number, lives_in, notes, pages_of, ends_block, meets_page, in_run}
+use Rattle.pas_same_text.proofs.{Common.{backed_in, Run, Live, live_in, numbers_from, same_truth, EndedRun}, FreeGrains.{has_outer, LivesSo, lives_so}}
+use Rattle.pas_same_text.proofs.{SmallActs.records_next, CacheLists.{same_guards, minds_keep, all_locals, locals_with}, Tests.{and_first, and_second}}
+use Rattle.pas_same_text.proofs.Tests.{any_filtered, filtered_any, any_weaker, any_split, filtered_has, has_filtered}
 
 -- ==== What the text does where grains come back to pages: which grains are free then, and which pages are hinted.
 -- ---- tests of numbers that follow each other
@@ -143,14 +143,10 @@ page_there f page of = numbers_have f.pages 1 page of.0 (omega (arith, of.1))
 
 -- ==== What the text does where a block ends: its grains come back to its pages, and no other page changes.
 -- ---- a name without effect
--- a refusal changes records and events alone, and no page is named
-pub rejected_returns : (f : Profile) (k : ℕ) (name : Name) (why : Why) (w : World) → Returns f [] w (rejects k name why w)
-rejected_returns f k name why w = search arith
-
 -- ---- a block that ends
 module _ (f : Profile) (k : ℕ) (name : Name) (b : Live) (w : World) (run : Run f w.events) (live : w.live ≡ lives_in w.events)
     (lives : live_in w.events (address_of name) ≡ Some b) where
-  abbrev after : World
+  abbrev pub after : World
   after = notes k b.block (shows (Event.End k name w.epoch) w)
 
   -- it has the grain of the page
@@ -161,22 +157,9 @@ module _ (f : Profile) (k : ℕ) (name : Name) (b : Live) (w : World) (run : Run
   abbrev pub noted_then : List EndedRun
   noted_then = if nat_lt (length (noted_of w k)) 64 then noted_of w k ++ run_of (shows (Event.End k name w.epoch) w) b.block else noted_of w k
 
-  locals_same : all_locals after.caches ≡ all_locals w.caches
-  locals_same = locals_with w.caches k (record (cache_of w k) { noted = noted_then }) refl
-
   -- What blocks cover afterwards they covered before.
   fewer : (page g : ℕ) → is_covered (blocks_on after page) (256 * page + g) ≡ true → is_covered (blocks_on w page) (256 * page + g) ≡ true
   fewer page g h = search (arith, filtered_any, any_weaker, and_second, any_filtered)
-
-  -- the block at the address is this one
-  no_other : (page g : ℕ) → IsPage f page → has_number (pages_of f b.block) page ≡ false
-      → list_any (λ x. is_at (address_of name) x && has page g x) w.live ≡ true → ⊥
-  no_other page g of none h =
-      let o : LivesSo w.events (λ x. is_at (address_of name) x && has page g x) =
-      lives_so f w.events (λ x. is_at (address_of name) x && has page g x) run
-      (ap (list_any (λ x. is_at (address_of name) x && has page g x)) (sym live) ∙ h) in
-      let at : address_of o.live.block.name ≡ address_of name = eqb-true _ _ (and_first _ _ o.so) in
-      search (arith, and_first, and_second, has_filtered, page_there)
 
   -- On other pages they cover the same.
   elsewhere : (page g : ℕ) → IsPage f page → has_number (pages_of f b.block) page ≡ false → is_covered (blocks_on w page) (256 * page + g) ≡ true
@@ -185,12 +168,17 @@ module _ (f : Profile) (k : ℕ) (name : Name) (b : Live) (w : World) (run : Run
       let p : Block → Bool = λ x. in_run (grain_of x.name) (length_of x) (256 * page + g) in
       let meets : Block → Bool = λ x. meets_page (grain_of x.name) (length_of x) page in
       elim (any_split _ _ w.live (any_filtered p meets w.live h)) [
-        | inl here ↦ absurd (no_other page g of none here)
+        | inl here ↦ absurd (let o : LivesSo w.events (λ x. is_at (address_of name) x && has page g x) =
+            lives_so f w.events (λ x. is_at (address_of name) x && has page g x) run
+            (ap (list_any (λ x. is_at (address_of name) x && has page g x)) (sym live) ∙ here) in
+            let at : address_of o.live.block.name ≡ address_of name = eqb-true _ _ (and_first _ _ o.so) in
+            search (arith, and_first, and_second, has_filtered, page_there))
         | inr away ↦ filtered_any p meets _ (filtered_any _ (λ x. not (is_at (address_of name) x)) w.live away)
       ]
 
   cached_same : (page g : ℕ) → is_cached (locals_on after page) g ≡ is_cached (locals_on w page) g
-  cached_same page g = ap (λ (ls : List Local). is_cached (filter (λ l. l.page == page) ls) g) locals_same
+  cached_same page g = ap (λ (ls : List Local). is_cached (filter (λ l. l.page == page) ls) g)
+      (locals_with w.caches k (record (cache_of w k) { noted = noted_then }) refl)
 
   -- by cases on what is covered
   freed_more : (x y c : Bool) → (y ≡ true → x ≡ true) → (not x && c) ≡ true → (not y && c) ≡ true
@@ -207,10 +195,6 @@ module _ (f : Profile) (k : ℕ) (name : Name) (b : Live) (w : World) (run : Run
       (λ page g of none small.
       cc (cached_same page g, same_truth _ _ (fewer page g) (elsewhere page g of none)))
       refl
-
-  -- Where a block ends, the caches change in the noted runs of the ending thread alone.
-  pub ended_caches : (ends_block f k name b.block w).caches ≡ with_cache w.caches k (record (cache_of w k) { noted = noted_then })
-  ended_caches = (all_only_hints (pages_of f b.block) after).caches
 
 -- ==== GUARDS ARE LOWERED in the text: their outer pages are anybody's again, and nothing else changes but hints.
 -- ---- which pages come back, what is said, and which guards are left
@@ -258,11 +242,9 @@ module _ (f : Profile) (g : Raised) (w : World) (low : IsPage f g.guard.low) (hi
   one_guards : (lowers g w).guards ≡ without g.guard.low w.guards
   one_guards = same_guards (minds g.guard.low bare) minded (minds_keep g.guard.high (minds g.guard.low bare)) ∙ same_guards bare (minds g.guard.low bare) (minds_keep g.guard.low bare)
 
-  both_within : (page : ℕ) → has_number (g.guard.low ∷ g.guard.high ∷ []) page ≡ true → IsPage f page
-  both_within page h = search (arith, or_cases, eqb-true)
-
   one_returns : Returns f (g.guard.low ∷ g.guard.high ∷ []) w (lowers g w)
-  one_returns = returns_like f _ w minded _ (minded_last f _ w bare both_within (λ page. refl) (λ page b small h. h) (λ page b of none small. refl) refl) refl refl refl refl
+  one_returns = returns_like f _ w minded _ (minded_last f _ w bare (λ page h. search (arith, or_cases, eqb-true)) (λ page. refl) (λ page b small h. h)
+      (λ page b of none small. refl) refl) refl refl refl refl
 
   lowered_then : (downs : List Raised) (v : World) → AreLowered f downs (lowers g w) v → AreLowered f (g ∷ downs) w v
   lowered_then downs v more =
@@ -300,7 +282,7 @@ swapped : (p q : Raised → Bool) (gs : List Raised) → filter p (filter q gs) 
 swapped p q [] = refl
 swapped p q (g ∷ gs) = let ih = swapped p q gs in grind (arith, ih)
 
-swapped_all : (p : Raised → Bool) (downs gs : List Raised) → filter p (without_all downs gs) ≡ without_all downs (filter p gs)
+pub swapped_all : (p : Raised → Bool) (downs gs : List Raised) → filter p (without_all downs gs) ≡ without_all downs (filter p gs)
 swapped_all p [] gs = refl
 swapped_all p (g ∷ downs) gs = swapped_all p downs (without g.guard.low gs) ∙ ap (without_all downs) (swapped p (λ x. not (x.guard.low == g.guard.low)) gs)
 
@@ -349,12 +331,6 @@ own_left k t [] apart = refl
 own_left k t (g ∷ gs) apart = search (arith, eq-eqb, none_lost, first_stays, not_some, own_left k t gs apart.2)
 
 -- ---- of all keepers, where these guards of one are lowered
-pub left_of : (books : ℕ → List Guard) (keeper k : ℕ) (fallen : List Guard) (gs : List Raised)
-    → filter (λ g. g.keeper == k) gs ≡ map (raised_by k) (books k)
-    → filter (λ g. g.keeper == k) (without_all (map (raised_by keeper) fallen) gs)
-    ≡ without_all (map (raised_by keeper) fallen) (map (raised_by k) (books k))
-left_of books keeper k fallen gs is = simp (swapped_all, is)
-
 -- ---- the outer pages, as numbers
 pub outer_number : (k : ℕ) (gs : List Guard) (page : ℕ) → is_outer gs page ≡ true → has_number (outer_pages (map (raised_by k) gs)) page ≡ true
 outer_number k [] page h = h

@@ -187,22 +187,14 @@ module _ (page start n name : ℕ) {f : Profile} {k : ℕ} {p : Progress} (c : C
   grains : length_of block ≡ n
   grains = ap (λ (x : ℕ). x / 16) g.room_is ∙ long
 
-  -- The run begins on the page.
-  small : start < 256
-  small = omega (arith, fits, some)
-
-  within_page : (x : ℕ) → in_run (grain_of block.name) (length_of block) x ≡ true → mine (x / 256) ≡ true
-  within_page x h = let on = run_of (grain_of block.name) (length_of block) x h in eq-eqb page (x / 256) (omega (arith, on.0, on.1, grain, grains, fits))
-
-  made_ready_at : AllAtPage k d page es
-  made_ready_at = search_at k d page (part k p.list) got at
-
   -- The text makes the page ready as the search did.
   pub page_ready : readies k d page w ≡ shown es w
-  page_ready = given_ready k d page f es w k block start made_ready_at (give_admitted g) small grain (omega (arith, grains, some))
+  page_ready = given_ready k d page f es w k block start (search_at k d page (part k p.list) got at) (give_admitted g) (omega (arith, fits, some)) grain
+      (omega (arith, grains, some))
 
   in_use : IsInUse q page
-  in_use = block_uses g page start small (to_run _ (length_of block) (256 * page + start) (omega (arith, grain)) (omega (arith, grain, grains, some)))
+  in_use = block_uses g page start (omega (arith, fits, some))
+      (to_run _ (length_of block) (256 * page + start) (omega (arith, grain)) (omega (arith, grain, grains, some)))
 
   at_page : (P : ℕ → Type 0) → P page → (x : ℕ) → mine x ≡ true → P x
   at_page P own x here = subst P (eqb-true page x here) own
@@ -211,9 +203,6 @@ module _ (page start n name : ℕ) {f : Profile} {k : ℕ} {p : Progress} (c : C
   left_order : (t : Bool) (xs : List Made) → LeavesWhere t page d xs → LeftAll d (if t then page ∷ [] else []) xs
   left_order true xs leaves = (xs, [], leaves, refl, sym (append-nil xs))
   left_order false xs none = none
-
-  left_among : (t : Bool) → AllByRecursion (λ x. mine x ≡ true) (if t then page ∷ [] else [])
-  left_among t = search (arith, eq-eqb)
 
   module _ (t : Bool) (late left gave : List Made) (leaves : LeavesWhere t page d left) (late_kinds : Only (Giving ∷ LookLife ∷ []) late)
       (gave_kinds : Only giving gave) (rest_is : rest ≡ late ++ (left ++ gave)) (right : has_right (got ++ part k p.list) page ≡ true)
@@ -229,7 +218,7 @@ module _ (page start n name : ℕ) {f : Profile} {k : ℕ} {p : Progress} (c : C
       late_kinds = late_kinds;
       gave_kinds = gave_kinds;
       rest_is = rest_is;
-      among = left_among t;
+      among = search (arith, eq-eqb);
       list = sym (triples_append k rest got p.list);
       right = at_page (λ y. has_right (part k (triples k got ++ p.list)) y ≡ true) (ap (λ (u : View). has_right u page) (part_of_own k got p.list) ∙ right);
       deeds = at_page (λ y. word_after q.list (Word.Deed y) ≡ deed_word_of d) (word_known f q.list g.there.legal k page d deed);
@@ -255,8 +244,13 @@ module _ (page start n name : ℕ) {f : Profile} {k : ℕ} {p : Progress} (c : C
       -- Search and give are one piece of the actor.
       piece : IsPiece f k p q w v mine got rest
       piece =
-          let ready = at_ready k d page es made_ready_at in
-          let uses : UsesOnly p q mine = record { cached = cached; outer = λ j x h. inl h; live = only_block g d mine mine ready within_page } in
+          let ready = at_ready k d page es (search_at k d page (part k p.list) got at) in
+          let uses : UsesOnly p q mine = record {
+            cached = cached;
+            outer = λ j x h. inl h;
+            live = only_block g d mine mine ready (λ x h. let on = run_of
+                (grain_of block.name) (length_of block) x h in eq-eqb page (x / 256) (omega (arith, on.0, on.1, grain, grains, fits)));
+          } in
           let bare = λ (x : ℕ) (out : mine x ≡ false). at_bare k d page x got (eqb-false page x out) at in
           let unbacked = λ (x : ℕ) (out : mine x ≡ false). at_unbacked k d page x got (eqb-false page x out) at in
           let kept : (x : ℕ) → mine x ≡ false → deed_in v.events x ≡ deed_in w.events x = λ x out. cc (shown_events es w, ready_deeds k d mine es w.events x out ready) in

@@ -6,13 +6,12 @@ use Rattle.pas_same_text.proofs.Common.{deed_in, deed_word_of, triples, events_b
 use Rattle.pas_same_text.proofs.Common.{word_after, visible, Legal, Made, Hint, triples_append, events_same, only_both, only_within, events_append, part_of_own}
 use Rattle.pas_same_text.proofs.Common.{eligible_bit, LendsNone, IsValid, deed_same, lends_none, give_steps, IsInRun, in_span, span_in, MadeOf, allocating}
 use Rattle.pas_same_text.proofs.Common.{AllByRecursion, seeking, numbers_from, Progress, World, each, is_offered, backs as backs_page, address_on}
-use Rattle.pas_same_text.proofs.Common.{legal_earlier, InTurn, Always, large_of, IsBetween, has_number, IsSame, HasSame, ArePagesSame, all_both, all_map}
-use Rattle.pas_same_text.proofs.{Common.{BackStep, pages_from, ReturnsDuly, only_leaves}, StepMarks.{IsMarked, HintsPage, seeks_unbacked, once_parts}}
-use Rattle.pas_same_text.proofs.{Flushes.{legal_between, visible_steps}, Tests.on_page, RestingPages.word_known, MissedGuards.{each_listed, unlisted_bare}}
-use Rattle.pas_same_text.proofs.{RunsFound.{shown, shown_events, each_in_turn, shown_both, deeded, deeded_events, deeds_of, backs_in_turn}, Pieces.IsPiece}
-use Rattle.pas_same_text.proofs.Pieces.{UsesOnly, hinted_before, piece_pages, uses_wider, left_offered, IsInUse, LeavesBehind, giving, LeftAll, leaving}
-use Rattle.pas_same_text.proofs.{Pieces.{marks_behind, no_hint, rest_leaves}, GivenBlocks.{AreReadying, GivesBlock, backs_ready, block_uses, made_ready}}
-use Rattle.pas_same_text.proofs.GivenBlocks.{only_block, IsReadying, ready_deeds}
+use Rattle.pas_same_text.proofs.Common.{legal_earlier, InTurn, Always, large_of, IsBetween, has_number, IsSame, HasSame, all_both, all_map, BackStep}
+use Rattle.pas_same_text.proofs.{Common.{pages_from, ReturnsDuly, only_leaves}, StepMarks.{IsMarked, HintsPage, seeks_unbacked, once_parts}}
+use Rattle.pas_same_text.proofs.{Flushes.visible_steps, Tests.on_page, RestingPages.word_known, MissedGuards.{each_listed, unlisted_bare}, RunsFound.shown}
+use Rattle.pas_same_text.proofs.{RunsFound.{shown_events, each_in_turn, shown_both, deeded, deeded_events, deeds_of, backs_in_turn}, Pieces.{IsPiece, UsesOnly}}
+use Rattle.pas_same_text.proofs.Pieces.{hinted_before, left_offered, IsInUse, LeavesBehind, giving, LeftAll, leaving, marks_behind, no_hint, rest_leaves}
+use Rattle.pas_same_text.proofs.GivenBlocks.{AreReadying, GivesBlock, backs_ready, block_uses, made_ready, only_block, IsReadying, ready_deeds}
 use Rattle.pas_steps.specs.Calls.{Kept, Gained, now as has_now}
 use Rattle.std.proofs.Common.{[], Some, ◌⊎◌, ◌≤◌, ◌≡◌, ℕ, ◌+◌, ◌*◌, ◌/◌, Bool, true, false, ◌||◌, if◌then◌else◌, List, ◌∷◌, ◌++◌, inl, inr, refl, ap, sym, ◌∙◌}
 use Rattle.std.proofs.Common.{subst, arith, append_assoc, true≢false}
@@ -64,8 +63,8 @@ module _ {f : Profile} {k heap first m low n : ℕ} {p q : Progress} {w : World}
   steps_are = ap (λ (ms : List Made). ms ++ got) g.after_is ∙ append_assoc left (gave ++ backs) got
 
   legal_backs : Legal f (triples k backs ++ mid)
-  legal_backs = legal_between f k (left ++ gave) backs got p.list
-      (subst (λ (ms : List Made). Legal f (triples k ms ++ p.list)) (steps_are ∙ sym (append_assoc left gave (backs ++ got))) legal)
+  legal_backs = subst (Legal f) (sym (triples_append k backs got p.list)) (legal_earlier f k (left ++ gave) (backs ++ got) p.list
+      (subst (λ (ms : List Made). Legal f (triples k ms ++ p.list)) (steps_are ∙ sym (append_assoc left gave (backs ++ got))) legal))
 
   -- Each page of the run has its deed before the backings.
   pub deed_mid : (x : ℕ) → IsInRun first m x → word_after mid (Word.Deed x) ≡ deed_word_of d
@@ -73,7 +72,7 @@ module _ {f : Profile} {k heap first m low n : ℕ} {p q : Progress} {w : World}
       (ap (λ (v : View). known_deed v x) (part_of_own k got p.list) ∙ g.gets.deeds x (span_in first (first + m) x here.0 here.1))
 
   -- ---- events
-  abbrev made : List ℕ
+  abbrev pub made : List ℕ
   made = deeded got
 
   abbrev ds : List Event
@@ -124,7 +123,7 @@ module _ {f : Profile} {k heap first m low n : ℕ} {p q : Progress} {w : World}
   in_block : (x : ℕ) → in_run (grain_of block.name) (length_of block) x ≡ in_span low (low + n) (x / 256)
   in_block x = ap (λ (b : Block). in_run (grain_of b.name) (length_of b) x) g.block_is ∙ run_is d low n word x
 
-  abbrev in_all : ℕ → Bool
+  abbrev pub in_all : ℕ → Bool
   in_all x = in_span first (first + m) x
 
   -- Of a page of the block a grain is in use.
@@ -169,7 +168,7 @@ module _ {f : Profile} {k heap first m low n : ℕ} {p q : Progress} {w : World}
     }
 
     -- The pages of the run, and those whose deeds were made; v is the text's state then.
-    abbrev mine : ℕ → Bool
+    abbrev pub mine : ℕ → Bool
     mine x = in_all x || has_number made x
 
     module _ (v : World) (now : HasSame f q v) (uses : UsesOnly p q in_all) (deeds : (x : ℕ) → deed_in v.events x ≡ deed_in (shown es w).events x)
@@ -197,16 +196,12 @@ module _ {f : Profile} {k heap first m low n : ℕ} {p q : Progress} {w : World}
       ]
 
       -- Search and give are one piece of the actor.
-      piece : IsPiece f k p q w v mine got rest
+      pub piece : IsPiece f k p q w v mine got rest
       piece =
-          let more : UsesOnly p q mine = uses_wider (λ x here. or_left (in_all x) (has_number made x) here) uses in
+          let more : UsesOnly p q mine = search arith in
           let bare = λ (x : ℕ) (out : mine x ≡ false). unlisted_bare x got (unlisted x out) in
           let unbacked = λ (x : ℕ) (out : mine x ≡ false). seeks_unbacked k x got g.kinds in
           let kept = λ (x : ℕ) (out : mine x ≡ false). deeds x ∙ (ap (λ (ys : List Event). deed_in ys x) (shown_events es w)
           ∙ ready_deeds k d (has_number made) es w.events x (unlisted x out) ready) in
           let marks = λ (x : ℕ) (h : IsMarked x rest). or_left (in_all x) (has_number made x) (marks_behind g.valid g.between behind x h) in
           assumption (more, bare, unbacked, kept, hinted, marks, own_hint, own_offer, now, all_kinds, lends, g)
-
-      -- EACH PAGE is hinted and offered exactly where its bits are set
-      pub run_pages : ArePagesSame f q.list v
-      run_pages = piece_pages piece

@@ -1,23 +1,23 @@
 -- A GUARD GOES UP: the search of a keeper found a run. Its inner pages get memory where they have none, their block is given, and the keeper holds the two pages beside it.
-use Rattle.pas_same_text.proofs.GivenRuns.{GivesPages, all_kinds, backs_are_ready, backs_text, gives_it, lives_within, page_used, run_pages}
-use Rattle.pas_same_text.proofs.Common.{false≢true, or_cases, or_left, number_of, IsDirectoryOf, Directory, Event, Block, Profile, deed_in, gives_in, triples}
-use Rattle.pas_same_text.proofs.Common.{events_by, View, part, Made, eligible_bit, agreed_steps, IsInRun, in_span, span_in, any_covers, is_outer_of, is_outer}
-use Rattle.pas_same_text.proofs.Common.{left_last_first, guard_of, HasSpan, Guard, Record, Said, Caches, Progress, named, records_of, World, says, is_offered}
-use Rattle.pas_same_text.proofs.Common.{backs, address_on, gives, large_of, raises, IsBetween, raised_by, has_number, IsSame, HasSame, AreSameCaches}
-use Rattle.pas_same_text.proofs.Common.{AreSameGuards, Raised, filter, address_of, IsAdmitted, route_in, room_in, Legal, part_of_own, legal_before}
-use Rattle.pas_same_text.proofs.Common.{legal_earlier, Cached, Indexes, found_in, Act, numbers_from, IsThread, Request, Op, What, with_book, AnswersTried}
-use Rattle.pas_same_text.proofs.{Common.{Tried, IsTried, after_trying, each, serves, IsKnown, IsKept, KeepsSame, lowers_ended}, FreeGrains.outer_held}
-use Rattle.pas_same_text.proofs.{FreeGrains.free_unheld, SmallActs.records_next, Tests.on_page, Pieces.{UsesOnly, free_kept, IsInUse}, KeepersRest.book_finds}
-use Rattle.pas_same_text.proofs.{KeepersRest.keeper_of, LowerActs.{sweep_same, ended_text}, PagesRequests.{pages_answered, named_large}, RunsFound.shown}
-use Rattle.pas_same_text.proofs.{RunsFound.{shown_events, shown_rest, deeded, deeds_of}, SoughtRuns.{unowned_free, found_made, found_pages, IsSought}}
-use Rattle.pas_same_text.proofs.{SoughtRuns.{sought_text, missed_text}, MissedGuards.{all_listed, deed_listed, guards_more, inner_or, left_free, left_in_run}}
-use Rattle.pas_same_text.proofs.{MissedGuards.{outer_more, outer_or, missed_same}, GivenBlocks.{block_is, epoch_now, events_now, live_now, names_now}}
-use Rattle.pas_same_text.proofs.{GivenBlocks.{ready_deeds, ready_gives, records_now}, CacheLists.{request_indexes, all_lowered_keep, each_keeps, backs_keep}}
-use Rattle.pas_same_text.proofs.{CacheLists.same_indexes, SeatedActs.{own_book, other_book, swept, swept_between, raise_legal, raise_fits}}
-use Rattle.pas_same_text.{proofs.SeatedActs.{sweep_and_raise_are_the_try, tried_between}, specs.Guards.{guard_on, with_guard, is_over, guards}}
-use Rattle.std.proofs.Common.{◌≤◌, ◌≡◌, ℕ, ◌+◌, ◌*◌, ◌==◌, Bool, true, false, List, [], ◌∷◌, ◌++◌, Some, inl, inr, refl, ap, sym, ◌∙◌, subst, arith}
+use Rattle.pas_same_text.proofs.{SoughtRuns.{made_by, agreed, FoundOrFailed, unowned_free, found_pages, IsSought, sought_text, missed_text}, Common.cases_lt}
+use Rattle.pas_same_text.proofs.Common.{AllByRecursion, all_map, visible, lowers, false≢true, or_cases, or_left, IsDirectoryOf, Directory, Event, Block}
+use Rattle.pas_same_text.proofs.Common.{Profile, deed_in, gives_in, triples, events_by, View, part, Made, agreed_steps, IsInRun, in_span, span_in, any_covers}
+use Rattle.pas_same_text.proofs.Common.{is_outer, guard_of, Guard, Record, Said, Caches, Progress, named, records_of, World, says, backs, address_on, gives}
+use Rattle.pas_same_text.proofs.Common.{large_of, raises, IsBetween, raised_by, has_number, IsSame, HasSame, AreSameCaches, AreSameGuards, Raised, filter}
+use Rattle.pas_same_text.proofs.Common.{address_of, route_in, room_in, Legal, part_of_own, legal_before, legal_earlier, Cached, Indexes, found_in, Act}
+use Rattle.pas_same_text.proofs.Common.{numbers_from, IsThread, Request, Op, What, with_book, AnswersTried, Tried, IsTried, after_trying, each, serves, IsKnown}
+use Rattle.pas_same_text.proofs.{Common.{IsKept, KeepsSame}, Pieces.{all_in_run, piece_pages, UsesOnly, free_kept, IsInUse}, LowerActs.goes_down}
+use Rattle.pas_same_text.proofs.{LowerActs.{told_filtered, sweep_same}, GivenRuns.{piece, GivesPages, all_kinds, backs_are_ready, backs_text, gives_it}}
+use Rattle.pas_same_text.proofs.{GivenRuns.{lives_within, page_used}, FreeGrains.{outer_held, free_unheld}, SmallActs.records_next, Tests.on_page}
+use Rattle.pas_same_text.proofs.{KeepersRest.{book_finds, keeper_of}, PagesRequests.{pages_answered, named_large}, RunsFound.{shown, shown_events, shown_rest}}
+use Rattle.pas_same_text.proofs.{RunsFound.{deeded, deeds_of}, MissedGuards.{all_listed, deed_listed, guards_more, left_free, outer_more, outer_or}}
+use Rattle.pas_same_text.proofs.{MissedGuards.missed_same, GivenBlocks.{block_is, epoch_now, events_now, live_now, names_now, ready_deeds, ready_gives}}
+use Rattle.pas_same_text.proofs.{GivenBlocks.records_now, CacheLists.{request_indexes, all_lowered_keep, each_keeps, backs_keep, same_indexes}}
+use Rattle.pas_same_text.proofs.SeatedActs.{own_book, other_book, swept, swept_between, raise_legal, raise_fits, sweep_and_raise_are_the_try, tried_between}
+use Rattle.pas_same_text.specs.Guards.{lowers_ended, guard_on, with_guard, is_over, guards}
+use Rattle.pas_guard.specs.{Guards.left_last_first, Raises.IsRaised}
+use Rattle.std.proofs.Common.{◌⊎◌, map, ◌≤◌, ◌≡◌, ℕ, ◌+◌, ◌*◌, ◌==◌, Bool, false, List, [], ◌∷◌, ◌++◌, Some, inl, inr, refl, ap, sym, ◌∙◌, subst, arith}
 use Rattle.std.proofs.Common.{append_assoc, eq-eqb, eqb-true, ◌-◌, ◌/◌, Option, None, append-nil}
-use Rattle.pas_guard.specs.Raises.{IsRaised}
 use Rattle.pas_answers.specs.{Indexes.{after_tried, TriedIsNamedBy}, Guarding.{said_of_guard, after_giving}}
 use Rattle.pas_profile.specs.Guards.{guards_of}
 
@@ -37,14 +37,20 @@ module _ (name : ℕ) {f : Profile} {k heap n : ℕ} {p q : Progress} {w : World
   abbrev own : View
   own = part k p.list
 
-  -- The keeper has the span of the run.
-  span : HasSpan large run.first (run.first + (n + 2)) own (xs ++ own)
-  span = run.found.got.from own s.met (agreed_steps f k p.list xs s.valid s.legal)
-
   given : GivesPages f k heap run.first (n + 2) (run.first + 1) n p q w xs run.backs run.left rest run.word run.answer (left_last_first run.first n) block
   given =
       let within : (run.first ≤ run.first + 1) × (run.first + 1 + n ≤ run.first + (n + 2)) = (omega arith, omega arith) in
-      assumption (within, found_made s run.first run.found, span.got, left_in_run run.first n, s, run, there, list)
+      let left_in_run : AllByRecursion (IsInRun run.first (n + 2)) (left_last_first run.first n) = search (arith, all_map, all_in_run) in
+      assumption (
+        within,
+        made_by s (FoundOrFailed s run.first run.found) (run.found.deeds (part k p.list) s.met (agreed s)),
+        (run.found.got.from own s.met (agreed_steps f k p.list xs s.valid s.legal)).got,
+        left_in_run,
+        s,
+        run,
+        there,
+        list,
+      )
 
   -- ---- the text
   abbrev ds : List Event
@@ -72,15 +78,13 @@ module _ (name : ℕ) {f : Profile} {k heap n : ℕ} {p q : Progress} {w : World
       ∙ (sym (ready_gives k large (has_number made) bs (ds ++ w.events) address (backs_are_ready given (has_number made)))
       ∙ ap (λ (ys : List Event). gives_in ys address) (sym (shown_events es w ∙ append_assoc bs ds w.events)))
 
-  guard_is : guard_on tried_on heap run.first n ≡ guard_of run.first n block
-  guard_is = cc (turns, block_is (gives_it given))
-
   -- ---- the guards that are up
   book_is : q.books k ≡ p.books k ++ guard_of run.first n block ∷ []
   book_is = own_book ∙ run.raised
 
   guards_are : v.guards ≡ w.guards ++ raised_by k (guard_of run.first n block) ∷ []
-  guards_are = ap (λ (gs : List Raised). gs ++ raised_by k (guard_on tried_on heap run.first n) ∷ []) (shown_rest es w).guards ∙ ap (λ (g : Guard). w.guards ++ raised_by k g ∷ []) guard_is
+  guards_are = ap (λ (gs : List Raised). gs ++ raised_by k (guard_on tried_on heap run.first n) ∷ []) (shown_rest es w).guards
+      ∙ ap (λ (g : Guard). w.guards ++ raised_by k g ∷ []) (cc (turns, block_is (gives_it given)))
 
   -- Afterwards the replay has what the text has.
   now : HasSame f q v
@@ -90,12 +94,9 @@ module _ (name : ℕ) {f : Profile} {k heap n : ℕ} {p q : Progress} {w : World
       assumption (events_now (gives_it given), live_now (gives_it given), guards, subst (λ (cs : Caches). AreSameCaches f cs v.caches) (sym caches) was)
 
   -- ---- the outer pages of the guard
-  outer_in_run : (x : ℕ) → is_outer_of (guard_of run.first n block) x ≡ true → IsInRun run.first (n + 2) x
-  outer_in_run x outer = search (arith, or_cases, eqb-true)
-
   -- a page of the run has a grain in use then: the block has it, or the keeper
   run_used : (x : ℕ) → IsInRun run.first (n + 2) x → IsInUse q x
-  run_used x here = elim (inner_or run.first n x here) [
+  run_used x here = elim (let it : IsInRun (run.first + 1) n x ⊎ ((run.first ≡ x) ⊎ (run.first + n + 1 ≡ x)) = search (arith, cases_lt) in it) [
     | inl inner ↦ page_used given x inner
     | inr outer ↦ record {
       grain = 0;
@@ -114,23 +115,12 @@ module _ (name : ℕ) {f : Profile} {k heap n : ℕ} {p q : Progress} {w : World
     cached = λ j g h. inl (ap (λ (cs : Caches). any_covers (cs j).locals g) (sym caches) ∙ h);
     outer = λ j x h. elim (outer_or k _ book_is other_books j x h) [
       | inl was ↦ inl was
-      | inr new ↦ let here = outer_in_run x new in inr (span_in run.first (run.first + (n + 2)) x here.0 here.1)
+      | inr new ↦ let here : IsInRun run.first (n + 2) x = search (arith, or_cases, eqb-true) in inr (span_in run.first (run.first + (n + 2)) x here.0 here.1)
     ];
     live = lives_within given;
   }
 
   -- ---- the pages whose deeds were made
-  deeds_apart : (x : ℕ) → deed_in v.events x ≡ deed_in (ds ++ w.events) x
-  deeds_apart x = ap (λ ys. deed_in ys x) (shown_events es w ∙ append_assoc bs ds w.events) ∙ ready_deeds k large (λ y. false) bs _ x refl (backs_are_ready given (λ y. false))
-
-  -- One of them that isn't of the run is free, and so offered where its bit is set.
-  listed_offer : (x : ℕ) (e : Directory) → in_all x ≡ false → has_number made x ≡ true → IsDirectoryOf f e → eligible_bit q.list (number_of e) x ≡ true
-      → is_offered v e x ≡ true
-  listed_offer x e out listed =
-      left_free f q v large s.valid there now x
-      (free_kept s.valid s.between there uses _ (ap in_all (on_page x 0 (omega arith)) ∙ out) (unowned_free s x 0 (all_listed _ made x (found_pages s run.first run.found) listed).bare (omega arith))) refl
-      (deeds_apart x ∙ deed_listed k large x made w.events listed) e
-
   -- ---- ALL
   raised_here : IsSame f q v
   raised_here =
@@ -139,7 +129,11 @@ module _ (name : ℕ) {f : Profile} {k heap n : ℕ} {p q : Progress} {w : World
       let line : Record = Record.Said k (Said.Guarded run.first (run.first + n + 1) name) in
       let lines = records ∙ (sym (append_assoc p.records shows (line ∷ [])) ∙ records_next (p.records ++ shows) (gives k name heap address (4096 * n) (shown es w)).records line (records_now g)) in
       let read = (shown_rest es w).read ∙ (s.same.read ∙ sym epoch) in
-      let pages = run_pages given run_used v now uses (λ x. refl) (shown_rest es w).hinted listed_offer in
+      let pages = piece_pages (piece given run_used v now uses (λ x. refl) (shown_rest es w).hinted (λ x e out listed. left_free f q v large s.valid there now x
+      (free_kept s.valid s.between there uses _ (ap in_all (on_page x 0 (omega arith)) ∙ out)
+      (unowned_free s x 0 (all_listed _ made x (found_pages s run.first run.found) listed).bare (omega arith))) refl
+      (ap (λ ys. deed_in ys x) (shown_events es w ∙ append_assoc bs ds w.events)
+      ∙ ready_deeds k large (λ y. false) bs _ x refl (backs_are_ready given (λ y. false)) ∙ deed_listed k large x made w.events listed) e)) in
       assumption (pages, lines, names_now g name ∙ sym names, epoch_now g (all_kinds given), read, now)
 
   -- Where a keeper's search found a run, the guard that the text raises there is the replay's state.
@@ -170,13 +164,9 @@ module _ (threads : ℕ) (f : Profile) (keeper line k other name heap size align
   abbrev d : Directory
   d = large_of heap
 
-  -- It is one that may be asked.
-  admitted : IsAdmitted f size align heap
-  admitted = known.planned.1.0
-
   -- Its directory is one of the profile.
   of : IsDirectoryOf f d
-  of = record { heap = admitted.of_profile; kind = tt; class = tt }
+  of = record { heap = known.planned.1.0.of_profile; kind = tt; class = tt }
 
   -- The keeper is an actor of the region.
   keeps : IsThread f keeper
@@ -204,16 +194,23 @@ module _ (threads : ℕ) (f : Profile) (keeper line k other name heap size align
     between : IsBetween f pm
     between = swept_between f keeper r p t known.taken.valid keeps known.taken.before uncached h legal
 
-    legal_raise : Legal f (triples keeper (h.raise.after ++ xs) ++ pm.list)
-    legal_raise = rw h.raise.steps_are at (raise_legal f keeper r p t known.taken.valid keeps known.taken.before uncached h legal)
-
     -- The keeper sought a run.
     sought : IsSought f keeper heap n pm wm xs
     sought =
-        let same : IsSame f pm wm = rw (ended_text f keeper p w known.taken.same)
+        let same : IsSame f pm wm = let ended_text : lowers_ended keeper w ≡ each lowers
+        (map (raised_by keeper) (filter (goes_down false (visible p.list)) (p.books keeper))) w = search (arith, told_filtered) in rw (ended_text)
         (sweep_same f keeper false p w h.swept h.left h.lowered known.taken.valid keeps known.taken.before known.taken.same h.sweep between) in
         let met = book_finds f heap h.left (part keeper pm.list) (raise_fits f keeper r p t known.taken.valid keeps known.taken.before uncached h legal) in
-        assumption (known.taken.valid, between, same, of, legal_earlier f keeper h.raise.after xs pm.list legal_raise, h.raise, met)
+        assumption (
+          known.taken.valid,
+          between,
+          same,
+          of,
+          legal_earlier f keeper h.raise.after xs pm.list
+              (rw h.raise.steps_are at (raise_legal f keeper r p t known.taken.valid keeps known.taken.before uncached h legal)),
+          h.raise,
+          met,
+        )
 
     lists_are : triples keeper t.steps ++ p.list ≡ triples keeper (h.raise.after ++ xs) ++ pm.list
     lists_are = cc (sweep_and_raise_are_the_try f keeper r p t known.taken.valid keeps known.taken.before uncached h legal)
@@ -259,17 +256,15 @@ module _ (threads : ℕ) (f : Profile) (keeper line k other name heap size align
         let high : address_of block.name / 4096 + n ≡ run.first + n + 1 = omega (arith, at) in
         cc
 
-    up_same : IsSame f q (raises keeper name heap run.first n (shown (deeds_of keeper d (deeded h.raise.searched)) wm))
-    up_same = raised_same name (sought t h there.legal) run there (lists_are t h there.legal) refl (own_book p.books keeper guards')
-        (λ j ne. other_book p.books keeper j guards' ne ∙ sym (other_book p.books keeper j h.left ne)) refl
-        (records_after t h there.legal ∙ ap (λ (rs : List Record). before.records ++ (records_of (own_events t h there.legal) ++ rs)) said_is) refl
-
     up_text : guards f keeper k (Some r) w ≡ raises keeper name heap run.first n (shown (deeds_of keeper d (deeded h.raise.searched)) wm)
     up_text = sought_text (sought t h there.legal) run.first run.found k name
 
     up_act : IsSame f p' (guards f keeper k (Some r) w) × ((guards f keeper k (Some r) w).indexes ≡ indexes)
     up_act = (
-      subst (λ (y : Progress). IsSame f y (guards f keeper k (Some r) w)) (sym reached) (rw up_text up_same),
+      subst (λ (y : Progress). IsSame f y (guards f keeper k (Some r) w)) (sym reached)
+          (rw up_text (raised_same name (sought t h there.legal) run there (lists_are t h there.legal) refl (own_book p.books keeper guards')
+          (λ j ne. other_book p.books keeper j guards' ne ∙ sym (other_book p.books keeper j h.left ne)) refl
+          (records_after t h there.legal ∙ ap (λ (rs : List Record). before.records ++ (records_of (own_events t h there.legal) ++ rs)) said_is) refl)),
       simp (up_text, raised_indexes, deeds_keep_indexes, wm_indexes),
     )
 
@@ -311,7 +306,8 @@ module _ (threads : ℕ) (f : Profile) (keeper line k other name heap size align
 
     down_act : IsSame f p' (guards f keeper k (Some r) w) × ((guards f keeper k (Some r) w).indexes ≡ after_tried f op r None left p' is indexes)
     down_act = (
-      rw (down_text, is.2) (pages_answered f k name heap size align left is.0 tried admitted known.planned.1.1.1 (search (arith, left_between, same_left))
+      rw (down_text, is.2) (pages_answered f k name heap size align left is.0 tried known.planned.1.0 known.planned.1.1.1
+          (search (arith, left_between, same_left))
           (named_large f r indexes is.0.found known.planned.1.1.1 named ∙ ap (λ (ix : Indexes). found_in ix heap n) (sym tried_indexes))),
       simp (down_text, request_indexes, tried_indexes),
     )

@@ -1,13 +1,12 @@
 -- WHERE THREADS AND KEEPERS ARE AT REST with their caches and books, all actors of the region rest; and keepers are so after what they do.
-use Rattle.std.proofs.Common.{ℕ, ◌<◌, ◌≤◌, [], ◌⊎◌, inl, inr, ◌∙◌, arith, ◌≡◌, ◌/◌, ◌==◌, Bool, true, false, List, ◌∷◌, ◌++◌, ap, sym, subst, true≢false}
-use Rattle.std.proofs.Common.{eqb-true, eq-eqb, ◌+◌, not, Option, None, Some, refl}
-use Rattle.pas_same_text.proofs.Common.{cases_lt, cases_Bool, eqb-false, or_cases, Profile, Word, Block, part, Legal, Whole, word_after, visible, View, holds}
-use Rattle.pas_same_text.proofs.Common.{Allowed, triples, Since, HasNothing, Giving, LookLife, returning, AtRest, Cached, Act, IsThread, Progress, Books}
+use Rattle.pas_same_text.proofs.Common.{nat_tests, or-false, cases_lt, cases_Bool, eqb-false, or_cases, Profile, Word, Block, part, Legal, Whole, word_after}
+use Rattle.pas_same_text.proofs.Common.{visible, View, holds, Allowed, triples, Since, HasNothing, Giving, LookLife, returning, Act, IsThread, Progress, Books}
 use Rattle.pas_same_text.proofs.Common.{AreAtRest, IsResting, AreResting, IsBetween, IsThreadOf, IsKeeperOf, AreSeated, large_of, IsValid, backed_in, Made}
 use Rattle.pas_same_text.proofs.Common.{Back, part_of_others, part_of_own, triples_append, always_map, word_of_backed, one_holder, agrees, agreed_steps}
 use Rattle.pas_same_text.proofs.Common.{legal_earlier, IsBeside, sweeping, SweepSteps, guard_of, filter, give_steps, MayFind, is_outer_of, is_outer, Each}
 use Rattle.pas_same_text.proofs.{Common.{FitsBook, Guard, Record}, FreeGrains.outer_held, GivenBack.some_outer, LowerActs.{IsSwept, swept_told, goes_down}}
-use Rattle.pas_same_text.proofs.Tests.{or_none, eqb_turned}
+use Rattle.std.proofs.Common.{ℕ, ◌<◌, ◌≤◌, [], ◌⊎◌, inl, inr, ◌∙◌, arith, ◌≡◌, ◌/◌, ◌==◌, Bool, true, false, List, ◌∷◌, ◌++◌, ap, sym, subst, true≢false}
+use Rattle.std.proofs.Common.{eqb-true, eq-eqb, ◌+◌, not, Option, None, Some, refl}
 use Rattle.pas_guard.{proofs.Raises.{raised_leaves, no_backs, each_more, backs_both, raised_pages}, specs.{Evidence.BackedReadHere, Seeks.LeftSince}}
 use Rattle.pas_guard.specs.Raises.{BacksNot, RaiseSteps}
 
@@ -19,32 +18,24 @@ thread_of threads f k own few = let low = own.0 in (low, omega (arith, own.1, fe
 pub keeper_of : (threads : ℕ) (f : Profile) (k : ℕ) → IsKeeperOf threads f k → IsThread f k
 keeper_of threads f k keeps = (omega (arith, keeps.0), keeps.1)
 
--- a thread at rest with its cache, which has no guard up, rests
-pub thread_rests : (f : Profile) (c : Cached) (v : View) → AtRest f c v → IsResting f c [] v
-thread_rests f c v rest = search arith
-
--- back again, without what is so of guards
-pub thread_at_rest : (f : Profile) (c : Cached) (v : View) → IsResting f c [] v → AtRest f c v
-thread_at_rest f c v rest = search arith
-
 module _ (threads : ℕ) (f : Profile) (p : Progress) (rest : AreAtRest threads f p.caches p.books p.list) (seated : AreSeated threads f p) where
   -- a keeper by its book, which it fits, and its empty cache; a thread as it is said of it
   rests_so : (k : ℕ) → IsThread f k → (threads < k) ⊎ (k ≤ threads) → IsResting f (p.caches k) (p.books k) (part k p.list)
   rests_so k is (inl keeps) = search arith
-  rests_so k is (inr works) = search (arith, thread_rests)
-
-  resting_from : AreResting f p.caches p.books p.list
-  resting_from = record {
-    working = λ k is. rests_so k is (cases_lt threads k);
-    none = λ k other. seated.unbooked k (λ keeper. other (omega (arith, keeper.0), keeper.1));
-    beside = seated.beside;
-    bare = seated.bare;
-    scavenger = rest.scavenger;
-  }
+  rests_so k is (inr works) = search arith
 
   -- Where all threads and keepers are at rest, a legal replay is between two acts.
   pub between_from : Legal f p.list → IsBetween f p
-  between_from legal = record { legal = legal; rest = resting_from }
+  between_from legal = record {
+    legal = legal;
+    rest = record {
+      working = λ k is. rests_so k is (cases_lt threads k);
+      none = λ k other. seated.unbooked k (λ keeper. other (omega (arith, keeper.0), keeper.1));
+      beside = seated.beside;
+      bare = seated.bare;
+      scavenger = rest.scavenger;
+    };
+  }
 
 -- the act is no keeper's: it changes no book
 abbrev pub IsNoKeepers : Act → Type 0
@@ -88,10 +79,6 @@ none_backed b h = grind arith
 pub bare_events : (f : Profile) (l : Whole) (page : ℕ) → IsValid f → Legal f l → word_after l (Word.Backed page) ≡ 0 → backed_in (visible l) page ≡ false
 bare_events f l page valid legal zero = none_backed (backed_in (visible l) page) (sym zero ∙ (agrees f l valid legal).backed page)
 
--- A page that isn't backed by the events of a legal list has 0 in its backed word.
-bare_word : (f : Profile) (l : Whole) (page : ℕ) → IsValid f → Legal f l → backed_in (visible l) page ≡ false → word_after l (Word.Backed page) ≡ 0
-bare_word f l page valid legal none = (agrees f l valid legal).backed page ∙ ap word_of_backed none
-
 -- ==== A KEEPER RESTS after its calls, and so do all others.
 -- ---- an actor without slots rests with its book
 -- ---- a page of another keeper stays bare
@@ -101,7 +88,7 @@ others_bare f p j k page xs valid before legal other outer =
     bare_events f (triples j xs ++ p.list) page valid legal
     (bare_on f j page xs p.list legal
     (held_unbacked f j k page xs p.list valid legal other (λ g at. outer_held f p before k g (ap (is_outer (p.books k)) at ∙ outer)))
-    (bare_word f p.list page valid before.legal (before.rest.bare k page outer)))
+    ((agrees f p.list valid before.legal).backed page ∙ ap word_of_backed (before.rest.bare k page outer)))
 
 -- ==== A KEEPER whose steps these are has this book then
 module _ (f : Profile) (p : Progress) (keeper : ℕ) (books : Books) (steps : List Made) (left : List Guard) (valid : IsValid f) (is : IsThread f keeper)
@@ -130,7 +117,8 @@ module _ (f : Profile) (p : Progress) (keeper : ℕ) (books : Books) (steps : Li
     beside = λ j. by_others (Each IsBeside) j (j == keeper) refl beside (λ ne. before.rest.beside j);
     bare = λ j page. by_others (λ (gs : List Guard). is_outer gs page ≡ true → backed_in (visible l) page ≡ false) j _ refl
         (λ outer. bare_events f l page valid legal (bare page outer))
-        (λ ne outer. others_bare f p keeper j page steps valid before legal (eqb_turned keeper j ∙ ne) outer);
+        (λ ne outer. others_bare f p keeper j page steps valid before legal
+        ((let it : (keeper == j) ≡ (j == keeper) = grind (arith, nat_tests) in it) ∙ ne) outer);
     scavenger = subst HasNothing (sym (part_of_others 0 keeper steps p.list (λ same. omega (arith, is.0, same)))) before.rest.scavenger;
   }
     where
@@ -161,11 +149,11 @@ module _ (f : Profile) (keeper : ℕ) (all : Bool) (p : Progress) (steps : List 
   swept_bare page outer =
       let was = some_outer stays (p.books keeper) page (ap (λ (gs : List Guard). is_outer gs page) (sym swept.kept_is) ∙ outer) in
       bare_on f keeper page steps p.list legal (no_backs sweeping page steps refl sweep.kinds)
-      (bare_word f p.list page valid before.legal (before.rest.bare keeper page was))
+      ((agrees f p.list valid before.legal).backed page ∙ ap word_of_backed (before.rest.bare keeper page was))
 
 -- ---- a raise
 pub outer_last : (gs : List Guard) (g : Guard) (page : ℕ) → is_outer (gs ++ g ∷ []) page ≡ true → (is_outer gs page ≡ true) ⊎ (is_outer_of g page ≡ true)
-outer_last [] g page h = inr (or_none (is_outer_of g page) h)
+outer_last [] g page h = inr (sym (or-false (is_outer_of g page)) ∙ h)
 outer_last (x ∷ gs) g page h = let ih = outer_last gs g page in search (arith, or_cases, ih)
 
 -- A keeper that fits its book may search for a run of its heap's large pages.

@@ -1,18 +1,18 @@
 -- GUARDS GO DOWN: a sweep of a keeper, guard by guard, and then in the replay and in the text.
+use Rattle.pas_same_text.proofs.GivenBack.{without_all, swapped_all, lowered_line, outer_pages, AreOfRegion, AreLowered, all_lowered, said_reversed}
+use Rattle.pas_same_text.proofs.{GivenBack.{lowered_unguarded, others_stay, some_outer, apart_split, own_left, outer_number}, Common.{or_left, or_right}}
+use Rattle.pas_same_text.proofs.Common.{false≢true, eqb-false, or_cases, false_from_ne_true, filter, hints_both, Mask4, address_of, IsValid, deed_word_of}
+use Rattle.pas_same_text.proofs.Common.{Directory, Event, Profile, Word, live_in, ends_in, deed_in, triples, Always, Kinds, LookLife, Putting, Only, Whole}
+use Rattle.pas_same_text.proofs.Common.{word_after, visible, Legal, part, Made, triples_append, only_within, agrees, legal_earlier, deed_of, one_holder}
+use Rattle.pas_same_text.proofs.Common.{HintsEmpty, BackSteps, return_returns, puts_kinds, large_of, World, each, lowers, IsBetween, StaysSame, free_bit}
+use Rattle.pas_same_text.proofs.Common.{raised_by, IsSame, HasSame, AreSameCaches, lives_in, Record, is_outer_of, is_outer, Each, IsBeside, sweeping}
+use Rattle.pas_same_text.proofs.Common.{SweepSteps, Guard, same_from_deed_word, View, holds, usable_by_kind, word_of_deed, freeing, Act, IsThread, Progress}
+use Rattle.pas_same_text.proofs.{Common.{with_book, with_records, after_lowering, Raised}, Flushes.unshown, EntrySteps.return_hints, StepMarks.IsMarked}
+use Rattle.pas_same_text.proofs.StepMarks.{marked_parts, none_marked, returns_marked, hints_none, hint_marks, offer_marks, epoch_stays_by}
+use Rattle.pas_same_text.proofs.{RestingPages.{deed_now, word_known, IsGivenBack, open_from, covered_not_held, free_left, given_pages}, FreeGrains.cached_held}
+use Rattle.pas_same_text.proofs.FreeGrains.{outer_held, held_by, never_both, holder_thread}
 use Rattle.std.proofs.Common.{◌≡◌, ℕ, ◌+◌, ◌*◌, ◌/◌, ◌%◌, ◌==◌, nat_lt, Bool, true, false, not, ◌||◌, if◌then◌else◌, List, [], ◌∷◌, ◌++◌, map, inl, inr, refl}
 use Rattle.std.proofs.Common.{◌⊎◌, ap, sym, ◌∙◌, subst, arith, eq-eqb, ◌≢◌, reverse, Some, eqb-true}
-use Rattle.pas_same_text.proofs.Common.{or_left, or_right, false≢true, eqb-false, or_cases, false_from_ne_true, filter, hints_both, Mask4, address_of, IsValid}
-use Rattle.pas_same_text.proofs.Common.{IsDirectoryOf, deed_word_of, Directory, Event, Profile, Word, live_in, ends_in, deed_in, triples, Always, Kinds}
-use Rattle.pas_same_text.proofs.Common.{LookLife, Putting, Only, Whole, word_after, visible, Legal, part, Made, triples_append, only_within, agrees}
-use Rattle.pas_same_text.proofs.Common.{legal_earlier, deed_of, one_holder, HintsEmpty, BackSteps, return_returns, puts_kinds, large_of, World, each, is_of}
-use Rattle.pas_same_text.proofs.Common.{lowers, lowers_ended, IsBetween, StaysSame, free_bit, raised_by, IsSame, HasSame, AreSameCaches, lives_in, Record}
-use Rattle.pas_same_text.proofs.Common.{is_outer_of, is_outer, Each, IsBeside, sweeping, SweepSteps, Guard, same_from_deed_word, View, holds, usable_by_kind}
-use Rattle.pas_same_text.proofs.{Common.{word_of_deed, freeing, Act, IsThread, Progress, with_book, with_records, after_lowering, Raised}, Flushes.unshown}
-use Rattle.pas_same_text.proofs.{EntrySteps.return_hints, GivenBack.{lowered_line, outer_pages, AreOfRegion, AreLowered, all_lowered, said_reversed}}
-use Rattle.pas_same_text.proofs.{GivenBack.{lowered_unguarded, others_stay, some_outer, apart_split, own_left, left_of, outer_number}, StepMarks.IsMarked}
-use Rattle.pas_same_text.proofs.StepMarks.{marked_parts, none_marked, returns_marked, hints_none, hint_marks, offer_marks, epoch_stays_by}
-use Rattle.pas_same_text.proofs.RestingPages.{is_open, deed_now, word_known, IsGivenBack, open_from, covered_not_held, free_left, given_pages}
-use Rattle.pas_same_text.proofs.FreeGrains.{cached_held, outer_held, held_by, never_both, holder_thread}
 use Rattle.pas_steps.specs.Views.{KnowsDeed}
 use Rattle.pas_profile.specs.Lives.{turn_of}
 use Rattle.pas_core.proofs.Lives.{turn_is}
@@ -36,12 +36,6 @@ pub back_hints : (page : ℕ) (d : Directory) (mask : Mask4) (steps : List Made)
 back_hints page d mask steps (inl h) = subst (Always HintsEmpty) (sym h.1) tt
 back_hints page d mask steps (inr h) = rw h.5
     (hints_both h.2 h.1 (return_hints page d h.2 h.4) (hints_none (Putting ∷ []) h.1 refl (puts_kinds page mask 4 h.1 h.3)))
-
-lower_marked : (g : Guard) (q : ℕ) (steps : List Made) → LowerSteps g steps → IsMarked q steps → is_outer_of g q ≡ true
-lower_marked g q steps h marked = elim (marked_parts q h.high h.low (subst (IsMarked q) h.steps_are marked)) [
-  | inl first ↦ or_right (g.low == q) (g.high == q) (eq-eqb g.high q (back_page g.high (large_of g.block.heap) full q h.high h.high_order first))
-  | inr later ↦ or_left (g.low == q) (g.high == q) (eq-eqb g.low q (back_page g.low (large_of g.block.heap) full q h.low h.low_order later))
-]
 
 lower_hints : (g : Guard) (steps : List Made) → LowerSteps g steps → Always HintsEmpty steps
 lower_hints g steps h = subst (Always HintsEmpty) (sym h.steps_are)
@@ -87,9 +81,6 @@ module _ (all : Bool) (es : List Event) (keeper : ℕ) (g : Guard) (gs kept afte
   abbrev fall : List Guard
   fall = filter (goes_down all es) gs
 
-  look_hints : Always HintsEmpty look
-  look_hints = hints_none (LookLife ∷ []) look refl (refl, tt)
-
   -- a look marks no page
   marked_in : (q : ℕ) → IsMarked q (rest ++ (first ++ look)) → IsMarked q rest ⊎ IsMarked q first
   marked_in q marked = elim (marked_parts q rest (first ++ look) marked) [
@@ -103,13 +94,16 @@ module _ (all : Bool) (es : List Event) (keeper : ℕ) (g : Guard) (gs kept afte
   swept_one true e h = record {
     kept_is = h.1 ∙ (later.kept_is ∙ sym (ap (λ (b : Bool). if not b then g ∷ stay else stay) e));
     said_is = h.2 ∙ (ap (λ (rs : List Record). lowered_record keeper g ∷ rs) later.said_is ∙ sym (ap (λ (b : Bool). map lowered_line (map (raised_by keeper) (if b then g ∷ fall else fall))) e));
-    hints = hints_both rest (first ++ look) later.hints (hints_both first look (lower_hints g first h.0) look_hints);
+    hints = hints_both rest (first ++ look) later.hints (hints_both first look (lower_hints g first h.0) (hints_none (LookLife ∷ []) look refl (refl, tt)));
     marks = λ q marked. ap (λ (b : Bool). is_outer (if b then g ∷ fall else fall) q) e ∙ elim (marked_in q marked) [
       | inl in_rest ↦ or_right (is_outer_of g q) (is_outer fall q) (later.marks q in_rest)
-      | inr lowers ↦ or_left (is_outer_of g q) (is_outer fall q) (lower_marked g q first h.0 lowers)
+      | inr lowers ↦ or_left (is_outer_of g q) (is_outer fall q) (elim (marked_parts q h.0.high h.0.low (subst (IsMarked q) h.0.steps_are lowers)) [
+        | inl first' ↦ or_right (g.low == q) (g.high == q) (eq-eqb g.high q (back_page g.high (large_of g.block.heap) full q h.0.high h.0.high_order first'))
+        | inr later ↦ or_left (g.low == q) (g.high == q) (eq-eqb g.low q (back_page g.low (large_of g.block.heap) full q h.0.low h.0.low_order later))
+      ])
     ];
   }
-  swept_one false e h = search (arith, hints_both, look_hints, marked_in)
+  swept_one false e h = search (arith, hints_both, hints_none, marked_in)
 
 module _ (f : Profile) (all : Bool) (es : List Event) (keeper : ℕ) (valid : IsValid f) where
   -- A sweep lowers just the guards that go down by the events, and says so of each, in order.
@@ -195,34 +189,28 @@ module _ (f : Profile) (keeper : ℕ) (all : Bool) (p : Progress) (w : World) (s
   was_outer : (q : ℕ) → is_outer fallen q ≡ true → is_outer (p.books keeper) q ≡ true
   was_outer q h = some_outer test (p.books keeper) q h
 
-  was_held : (g : ℕ) → is_outer fallen (g / 256) ≡ true → holds (part keeper p.list) g ≡ true
-  was_held g h = outer_held f p before keeper g (was_outer (g / 256) h)
-
   -- .. and is no other's
   only_its : (k g : ℕ) → is_outer fallen (g / 256) ≡ true → holds (part k p.list) g ≡ true → k ≡ keeper
-  only_its k g h held = eqb-true k keeper (one_holder f p.list valid before.legal k keeper g held (was_held g h))
-
-  on_first : (q : ℕ) → 256 * q / 256 ≡ q
-  on_first q = omega arith
+  only_its k g h held = eqb-true k keeper (one_holder f p.list valid before.legal k keeper g held (outer_held f p before keeper g (was_outer (g / 256) h)))
 
   not_others : (k q : ℕ) → k ≢ keeper → is_outer fallen q ≡ true → is_outer (p.books k) q ≡ false
   not_others k q ne h = false_from_ne_true (is_outer (p.books k) q) (λ outer.
-      ne (only_its k (256 * q) (ap (is_outer fallen) (on_first q) ∙ h) (outer_held f p before k (256 * q) (ap (is_outer (p.books k)) (on_first q) ∙ outer))))
-
-  not_left : (q : ℕ) → is_outer fallen q ≡ true → is_outer left q ≡ false
-  not_left q h = ap (λ (gs : List Guard). is_outer gs q) told.kept_is ∙ apart_split test _ q (before.rest.working keeper is).locals.guards_apart h
+      ne (only_its k (256 * q) (ap (is_outer fallen) (omega arith) ∙ h) (outer_held f p before k (256 * q) (ap (is_outer (p.books k)) (omega arith) ∙ outer))))
 
   -- ---- the guards that are left
   guards_at : (k : ℕ) (t : Bool) → (k == keeper) ≡ t → filter (λ g. g.keeper == k) v.guards ≡ map (raised_by k) (if t then left else p.books k)
   guards_at k true e =
       let at_keeper : filter (λ g. g.keeper == keeper) v.guards ≡ map (raised_by keeper) left =
       ap (filter (λ (g : Raised). g.keeper == keeper)) lowered.guards
-      ∙ (left_of p.books keeper keeper fallen w.guards (same.guards.each keeper)
+      ∙ ((let it : filter (λ g. g.keeper == keeper) (without_all (map (raised_by keeper) fallen) w.guards) ≡ without_all (map (raised_by keeper) fallen)
+      (map (raised_by keeper) (p.books keeper)) = simp (swapped_all, same.guards.each keeper) in it)
       ∙ (own_left keeper test (p.books keeper) (before.rest.working keeper is).locals.guards_apart ∙ ap (map (raised_by keeper)) (sym told.kept_is))) in
       subst (λ (j : ℕ). filter (λ g. g.keeper == j) v.guards ≡ map (raised_by j) left) (sym (eqb-true k keeper e)) at_keeper
   guards_at k false e =
       ap (filter (λ (g : Raised). g.keeper == k)) lowered.guards
-      ∙ (left_of p.books keeper k fallen w.guards (same.guards.each k) ∙ others_stay k keeper fallen (p.books k) (λ low h. not_others k low (eqb-false k keeper e) h))
+      ∙ ((let it : filter (λ g. g.keeper == k) (without_all (map (raised_by keeper) fallen) w.guards) ≡ without_all (map (raised_by keeper) fallen)
+      (map (raised_by k) (p.books k)) = simp (swapped_all, same.guards.each k) in
+      it) ∙ others_stay k keeper fallen (p.books k) (λ low h. not_others k low (eqb-false k keeper e) h))
 
   -- Afterwards the replay has what the text has.
   has : HasSame f p' v
@@ -241,22 +229,9 @@ module _ (f : Profile) (keeper : ℕ) (all : Bool) (p : Progress) (w : World) (s
   ]
     where
       by_keeper : (t : Bool) → (j == keeper) ≡ t → is_outer (if t then left else p.books j) (g / 256) ≡ true → ⊥
-      by_keeper true e outer = false≢true (sym (not_left (g / 256) h) ∙ outer)
+      by_keeper true e outer = false≢true (sym (ap (λ (gs : List Guard). is_outer gs (g / 256)) told.kept_is
+          ∙ apart_split test _ (g / 256) (before.rest.working keeper is).locals.guards_apart h) ∙ outer)
       by_keeper false e outer = false≢true (sym (not_others j (g / 256) (eqb-false j keeper e) h) ∙ outer)
-
-  came_back : (q : ℕ) (d : Directory) → IsDirectoryOf f d → is_of v d q ≡ true → is_outer fallen q ≡ true → is_open v d q ≡ true
-  came_back q d of is_own h =
-      let g : ℕ = 256 * q + 0 in
-      let on : (256 * q + 0) / 256 ≡ q = omega arith in
-      let at_g : is_outer fallen (g / 256) ≡ true = ap (is_outer fallen) on ∙ h in
-      let o = outer_deed (part keeper p.list) (p.books keeper) q (before.rest.working keeper is).locals.guards_known (was_outer q h) in
-      let deed : deed_in (visible p.list) q ≡ Some d = ap (λ (es : List Event). deed_in es q) (sym shown) ∙ deed_now f p' v valid after has q d of is_own in
-      let word : word_after p.list (Word.Deed q) ≡ deed_word_of d = deed_of f p.list before.legal q ∙ ap word_of_deed deed in
-      let d_is : d ≡ large_of o.0 = same_from_deed_word d _ of.kind tt (sym word ∙ word_known f p.list before.legal keeper q (large_of o.0) o.1) in
-      let free : free_bit p'.list g ≡ true = free_left f p'.list valid after.legal g
-      (λ j held. no_holder j g at_g held)
-      (λ a b lives of_it. covered_not_held f p.list valid before.legal g a b (ap (λ (es : List Event). live_in es a) (sym shown) ∙ lives) of_it keeper (was_held g at_g)) in
-      open_from f p' v valid after has d q 0 (omega arith) (ap (λ (x : Directory). usable_by_kind x.kind 0) d_is) free
 
   -- Only outer pages of the guards were given back.
   given : IsGivenBack f keeper p.list w steps v
@@ -266,7 +241,18 @@ module _ (f : Profile) (keeper : ℕ) (all : Bool) (p : Progress) (w : World) (s
     kinds = only_within sweeping freeing steps refl sweep.kinds;
     hints = told.hints;
     marks = λ q of hint. outer_number keeper fallen q (told.marks q (hint_marks q steps hint));
-    rooms = λ q d of is_own offer. came_back q d of is_own (told.marks q (offer_marks q steps offer));
+    rooms = λ q d of is_own offer. let h = told.marks q (offer_marks q steps offer) in let g : ℕ = 256 * q + 0 in
+        let on : (256 * q + 0) / 256 ≡ q = omega arith in
+        let at_g : is_outer fallen (g / 256) ≡ true = ap (is_outer fallen) on ∙ h in
+        let o = outer_deed (part keeper p.list) (p.books keeper) q (before.rest.working keeper is).locals.guards_known (was_outer q h) in
+        let deed : deed_in (visible p.list) q ≡ Some d = ap (λ (es : List Event). deed_in es q) (sym shown) ∙ deed_now f p' v valid after has q d of is_own in
+        let word : word_after p.list (Word.Deed q) ≡ deed_word_of d = deed_of f p.list before.legal q ∙ ap word_of_deed deed in
+        let d_is : d ≡ large_of o.0 = same_from_deed_word d _ of.kind tt (sym word ∙ word_known f p.list before.legal keeper q (large_of o.0) o.1) in
+        let free : free_bit p'.list g ≡ true = free_left f p'.list valid after.legal g
+        (λ j held. no_holder j g at_g held)
+        (λ a b lives of_it. covered_not_held f p.list valid before.legal g a b (ap (λ (es : List Event). live_in es a) (sym shown) ∙ lives) of_it keeper
+        (outer_held f p before keeper g (was_outer (g / 256) at_g))) in
+        open_from f p' v valid after has d q 0 (omega arith) (ap (λ (x : Directory). usable_by_kind x.kind 0) d_is) free;
     guarded = λ q none. lowered_unguarded f downs w v q lowered none;
   }
 
@@ -283,15 +269,10 @@ all_pass : (gs : List Guard) → filter (λ g. true) gs ≡ gs
 all_pass [] = refl
 all_pass (g ∷ gs) = ap (λ (xs : List Guard). g ∷ xs) (all_pass gs)
 
-told_filtered : (keeper : ℕ) (t : Guard → Bool) (u : Raised → Bool) (gs : List Guard) → ((g : Guard) → u (raised_by keeper g) ≡ t g)
+pub told_filtered : (keeper : ℕ) (t : Guard → Bool) (u : Raised → Bool) (gs : List Guard) → ((g : Guard) → u (raised_by keeper g) ≡ t g)
     → filter u (map (raised_by keeper) gs) ≡ map (raised_by keeper) (filter t gs)
 told_filtered keeper t u [] same = refl
 told_filtered keeper t u (g ∷ gs) same = let ih = told_filtered keeper t u gs same in let here = same g in grind (arith, ih, here)
-
--- The guards whose blocks ended by the text are those of the book that go down by the events.
-pub ended_text : (f : Profile) (keeper : ℕ) (p : Progress) (w : World) → IsSame f p w
-    → lowers_ended keeper w ≡ each lowers (map (raised_by keeper) (filter (goes_down false (visible p.list)) (p.books keeper))) w
-ended_text f keeper p w same = search (arith, told_filtered)
 
 -- ---- THE ACT at the close
 pub lower_act : (f : Profile) (keeper : ℕ) → IsThread f keeper → StaysSame f (Act.Lowers keeper)

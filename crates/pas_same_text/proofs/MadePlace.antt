@@ -1,18 +1,19 @@
 -- ONE LOCAL ALLOCATOR GOES, in the text alone: wherever it stands in its cache.
 use Rattle.std.proofs.Common.{arith, ◌≡◌, ℕ, Bool, true, false, not, ◌||◌, if◌then◌else◌, List, [], ◌∷◌, Some, refl, eqb-true, ◌≤◌, length, ◌==◌, ◌++◌, reverse}
 use Rattle.std.proofs.Common.{inl, inr, ◌&&◌, ap, sym, ◌∙◌, subst, append-nil, eq-eqb, ◌+◌, ◌/◌, ◌%◌, ◌<◌, nat_le, cond, All, Option, None, true≢false}
-use Rattle.pas_same_text.proofs.{GivenBack.{Returns, OnlyHints, all_only_hints}, Flushes.visible_steps, StopActs.{slot_room, read_room}}
-use Rattle.pas_same_text.proofs.{CachedSlots.found_passes, CacheLists.{same_guards, given_up_keeps, same_with, same_kept, Finds, for_same, found_same}}
-use Rattle.pas_same_text.proofs.{CacheLists.others_same, Tests.{any_weaker, any_filtered, and_second, and_first}, StopSteps.{AreUnique, one_returns, unique_of}}
-use Rattle.pas_same_text.proofs.{StopSteps.{IsMarkedBy, one_marked, one_hints, no_other_counted}, FreeGrains.{guards_as, still_unguarded, cached_held}}
-use Rattle.pas_same_text.proofs.{FreeGrains.{outer_held, held_by, never_both, holder_thread}, RestingPages.{is_open, IsGivenBack, covered_not_held, free_left}}
-use Rattle.pas_same_text.proofs.{RestingPages.given_pages, StepMarks.{IsMarked, hint_marks, offer_marks, epoch_stays_by}, Common.{AreSameCaches, false≢true}}
-use Rattle.pas_same_text.proofs.Common.{list_any, find, IsPage, IsValid, IsDirectoryOf, Profile, Directory, Event, Local, Cache, World, cache_of, locals_of}
-use Rattle.pas_same_text.proofs.Common.{set_locals, is_for, others, gives_up, is_of, IsBetween, free_bit, live_in, events_by, Only, part, visible, holds, Made}
-use Rattle.pas_same_text.proofs.Common.{only_within, events_same, one_holder, freeing, home_of, StopStepsAt, Slots, Cached, releasing, IsLocal, covers}
-use Rattle.pas_same_text.proofs.Common.{any_covers, IsThread, Progress, with_steps, Record, IsSame, HasSame, IsSameCache, IsSameLocal, AreSameLocals, lives_in}
-use Rattle.pas_same_text.proofs.Common.{nat_tests, sum_by-cons, All-head, All-tail, same_Some, none-some, count_by, IsEmpty, start_of, LeavesWhere, start_below}
-use Rattle.pas_same_text.proofs.Common.{StopsFirst, local_for, others_than, gives_up_first, makes_place}
+use Rattle.std.proofs.lemmas.List.Sums.{sum_by-cons}
+use Rattle.pas_same_text.proofs.{GivenBack.{OnlyHints, all_only_hints}, Flushes.visible_steps, StopActs.{slot_room, read_room}, CachedSlots.found_passes}
+use Rattle.pas_same_text.proofs.{CacheLists.{same_guards, given_up_keeps, same_with, same_kept, Finds, for_same, found_same, others_same}, Tests.any_weaker}
+use Rattle.pas_same_text.proofs.{Tests.{any_filtered, and_second, and_first}, StopSteps.{AreUnique, one_returns, unique_of, IsMarkedBy, one_marked, one_hints}}
+use Rattle.pas_same_text.proofs.{StopSteps.no_other_counted, FreeGrains.{guards_as, still_unguarded, cached_held, outer_held, held_by, never_both}}
+use Rattle.pas_same_text.proofs.{FreeGrains.holder_thread, RestingPages.{is_open, IsGivenBack, covered_not_held, free_left, given_pages}, StepMarks.hint_marks}
+use Rattle.pas_same_text.proofs.{StepMarks.{offer_marks, epoch_stays_by}, Common.{AreSameCaches, false≢true, list_any, find, IsPage, IsValid, IsDirectoryOf}}
+use Rattle.pas_same_text.proofs.Common.{Profile, Directory, Event, Local, Cache, World, cache_of, locals_of, set_locals, is_for, others, gives_up, is_of}
+use Rattle.pas_same_text.proofs.Common.{IsBetween, free_bit, live_in, events_by, Only, part, visible, holds, Made, only_within, events_same, one_holder}
+use Rattle.pas_same_text.proofs.Common.{freeing, home_of, StopStepsAt, Slots, Cached, releasing, IsLocal, covers, any_covers, IsThread, Progress, with_steps}
+use Rattle.pas_same_text.proofs.Common.{Record, IsSame, HasSame, IsSameLocal, AreSameLocals, lives_in, nat_tests, All-head, All-tail, same_Some, none-some}
+use Rattle.pas_same_text.proofs.Common.{count_by, start_of, LeavesWhere, start_below, StopsFirst, local_for, others_than, gives_up_first, makes_place}
+use Rattle.pas_bits.specs.Masks.{IsEmpty}
 use Rattle.pas_cache.specs.{Serves.MakesPlace, Locals.is_for as is_for_slots}
 
 -- ---- the others of a cache
@@ -94,36 +95,28 @@ module _ (f : Profile) (k : ℕ) (p : Progress) (w : World) (s : Slots) (l : Loc
   only = all_only_hints (l.page ∷ []) (bare f k l w unique o.found page_of)
 
   -- ---- events and caches
-  silent : events_by k (part k p.list) steps ≡ []
-  silent = ap (events_by k (part k p.list)) (sym (append-nil steps)) ∙ events_same releasing refl k (part k p.list) steps [] o.kinds
-
   -- They make no event.
   shown : visible p1.list ≡ visible p.list
-  shown = visible_steps k steps p.list ∙ ap (λ (es : List Event). es ++ visible p.list) silent
-
-  new_same : IsSameCache c1 (left f k l w unique o.found page_of)
-  new_same = let was = o.same.caches.each k o.thread in record { locals = o.fewer_same; log = was.log; noted = was.noted; idle_since = was.idle_since }
+  shown = visible_steps k steps p.list ∙ ap (λ (es : List Event). es ++ visible p.list)
+      (ap (events_by k (part k p.list)) (sym (append-nil steps)) ∙ events_same releasing refl k (part k p.list) steps [] o.kinds)
 
   -- Afterwards the replay has what the text has.
   has : HasSame f p1 v
   has =
       let live = only.live ∙ (o.same.pages.live ∙ ap lives_in (sym only.events)) in
       let caches : AreSameCaches f p1.caches v.caches =
-      rw only.caches (same_with f p.caches w.caches k c1 (left f k l w unique o.found page_of) o.thread o.listed o.same.caches new_same) in
+      rw only.caches (same_with f p.caches w.caches k c1 (left f k l w unique o.found page_of) o.thread o.listed o.same.caches
+      (let was = o.same.caches.each k o.thread in record { locals = o.fewer_same; log = was.log; noted = was.noted; idle_since = was.idle_since })) in
       assumption (only.events ∙ (o.same.pages.events ∙ sym shown), live, caches, guards_as p.books w v (same_guards w v (given_up_keeps k l w)) o.same.guards)
 
   -- ---- a grain of it is held by nobody then
-  cached_before : (j g : ℕ) (t : Bool) → (j == k) ≡ t → any_covers (if t then c1 else p.caches j).locals g ≡ true → covers s g ≡ true
-      → ((j == k) ≡ false) × (any_covers (p.caches j).locals g ≡ true)
-  cached_before j g t e held own = search (arith, false≢true)
-
   -- Nobody holds a grain that the stopped one covered.
   nobody : (j g : ℕ) → covers s g ≡ true → holds (part j p1.list) g ≡ true → ⊥
   nobody j g own held =
       let held_then : holds (part k p.list) g ≡ true = cached_held f p o.before k g o.thread (o.in_cache g own) in
       elim (held_by f p1 o.after j g held) [
         | inl cached ↦
-            let was = cached_before j g (j == k) refl cached own in
+            let was : ((j == k) ≡ false) × (any_covers (p.caches j).locals g ≡ true) = search (arith, false≢true) in
             false≢true (sym was.0 ∙ one_holder f p.list o.valid o.before.legal j k g (cached_held f p o.before j g (holder_thread f p1 o.after j g held) was.1) held_then)
         | inr outer ↦
             search (arith, eqb-true, one_holder, outer_held, never_both)
@@ -143,10 +136,6 @@ module _ (f : Profile) (k : ℕ) (p : Progress) (w : World) (s : Slots) (l : Loc
     | inr read ↦ read_room f k p steps c1 v o.valid o.before o.after has freed s o.known q d of is m.page read
   ]
 
-  -- The steps mark the page as the text does.
-  marked : (q : ℕ) → IsMarked q steps → IsMarkedBy s q steps
-  marked q m = one_marked s q steps o.known.class o.order m
-
   -- The cached slots were given back.
   given : IsGivenBack f k p.list w steps v
   given = record {
@@ -155,8 +144,9 @@ module _ (f : Profile) (k : ℕ) (p : Progress) (w : World) (s : Slots) (l : Loc
         (λ p none h. any_other p l.heap l.class l (locals_of w k) unique o.found none h);
     kinds = freed;
     hints = one_hints s steps o.order;
-    marks = λ q of hint. ap (λ (t : Bool). t || false) (eq-eqb l.page q (o.local.page ∙ (marked q (hint_marks q steps hint)).page));
-    rooms = λ q d of is offer. marked_room q d of is (marked q (offer_marks q steps offer));
+    marks = λ q of hint. ap (λ (t : Bool). t || false)
+        (eq-eqb l.page q (o.local.page ∙ (one_marked s q steps o.known.class o.order (hint_marks q steps hint)).page));
+    rooms = λ q d of is offer. marked_room q d of is (one_marked s q steps o.known.class o.order (offer_marks q steps offer));
     guarded = λ q none. still_unguarded w v q (same_guards w v (given_up_keeps k l w)) none;
   }
 
@@ -209,18 +199,10 @@ none_counted : (g : ℕ) (slots : List Slots) → count_by (λ x. covers x g) sl
 none_counted g [] none = refl
 none_counted g (s ∷ slots) none = let ih = none_counted g slots in let all = sum_by-cons (λ x. cond (covers x g) 1 0) s slots in grind (arith, ih, all)
 
-first_apart : (g : ℕ) (s : Slots) (slots : List Slots) → count_by (λ x. covers x g) (s ∷ slots) ≤ 1 → covers s g ≡ true → any_covers slots g ≡ false
-first_apart g s slots one own = none_counted g slots (no_other_counted (count_by (λ x. covers x g) slots) (covers s g) own (subst (λ (n : ℕ). n ≤ 1) (sum_by-cons (λ x. cond (covers x g) 1 0) s slots) one))
-
 -- ---- what the text does
 abbrev pub placed_by : ℕ → Option Local → World → World
 placed_by k None w = makes_place k w
 placed_by k (Some l) w = gives_up k l w
-
--- nothing was done
-unmoved : (f : Profile) (k : ℕ) (p : Progress) (w : World) (fewer : List Slots) (steps : List Made) → fewer ≡ (p.caches k).locals → steps ≡ [] → IsSame f p w
-    → IsSame f (up_to p k steps fewer) w
-unmoved f k p w fewer steps kept none same = rw (kept, none) (assumption (same_kept f p.caches w.caches k same.caches))
 
 module _ (f : Profile) (k : ℕ) (p : Progress) (w : World) (valid : IsValid f) (thread : IsThread f k) (listed : k ≤ length w.caches) (before : IsBetween f p)
     (same : IsSame f p w) where
@@ -228,9 +210,9 @@ module _ (f : Profile) (k : ℕ) (p : Progress) (w : World) (valid : IsValid f) 
   oldest_gone : (slots : List Slots) (ls : List Local) (fewer : List Slots) (steps : List Made) → (p.caches k).locals ≡ slots → locals_of w k ≡ ls
       → AreSameLocals slots ls → (t : Bool) → nat_le 32 (length slots) ≡ t → StopsFirst t slots fewer steps → Only releasing steps
       → IsBetween f (up_to p k steps fewer) → IsSame f (up_to p k steps fewer) (gives_up_first k ls w)
-  oldest_gone [] [] fewer steps own text locals t full h kinds after = unmoved f k p w fewer steps (h.0 ∙ sym own) h.1 same
+  oldest_gone [] [] fewer steps own text locals t full h kinds after = rw ((h.0 ∙ sym own), h.1) (assumption (same_kept f p.caches w.caches k same.caches))
   oldest_gone (s ∷ slots) (l ∷ ls) fewer steps own text locals false full h kinds after =
-      rw (ap (nat_le 32) (long_same (s ∷ slots) (l ∷ ls) locals) ∙ full) (unmoved f k p w fewer steps (h.0 ∙ sym own) h.1 same)
+      rw (ap (nat_le 32) (long_same (s ∷ slots) (l ∷ ls) locals) ∙ full) (rw ((h.0 ∙ sym own), h.1) (assumption (same_kept f p.caches w.caches k same.caches)))
   oldest_gone (s ∷ slots) (l ∷ ls) fewer steps own text locals true full h kinds after =
       let rest = (before.rest.working k thread).locals in
       let unique : AreUnique (l ∷ ls) = unique_of (s ∷ slots) (l ∷ ls) locals (rw own at rest.apart.one_each) in
@@ -248,7 +230,8 @@ module _ (f : Profile) (k : ℕ) (p : Progress) (w : World) (valid : IsValid f) 
         known = All-head (IsLocal f (part k p.list)) s slots (subst (All (IsLocal f (part k p.list))) own rest.known);
         in_cache = λ g h. ap (λ (xs : List Slots). any_covers xs g) own ∙ ap (λ (u : Bool). u || any_covers slots g) h;
         fewer_same = rw (h.0, text, (ap (λ (u : Bool). if not u then l ∷ others l.heap l.class ls else others l.heap l.class ls) of_own ∙ unique.0)) locals.1;
-        gone = λ g mine. rw h.0 (first_apart g s slots (rw own at (rest.apart.grains g)) mine);
+        gone = λ g mine. rw h.0 (none_counted g slots (no_other_counted (count_by (λ x. covers x g) slots) (covers s g) mine
+            (subst (λ (n : ℕ). n ≤ 1) (sum_by-cons (λ x. cond (covers x g) 1 0) s slots) (rw own at (rest.apart.grains g)))));
         after = after;
       })
   oldest_gone slots ls fewer steps own text locals t full h kinds after = absurd locals

@@ -1,23 +1,18 @@
 -- NO GUARD GOES UP: the search of a keeper found no run. The pages whose deeds it made are free then, and offered; all else is as it was. At the end: one guard more in a book.
-use Rattle.pas_same_text.proofs.Common.{cases_Bool, cases_lt, eqb-false, false≢true, or_cases, or_left, or_right, false_from_ne_true, IsInRun, MakesNoDeedHere}
-use Rattle.pas_same_text.proofs.Common.{left_last_first, is_outer_of, is_outer, seeking, SoughtNone, map-append, filter-append, same_Some, filter}
-use Rattle.pas_same_text.proofs.Common.{AllByRecursion, Guard, Books, Progress, records_of, World, is_offered, large_of, IsBetween, free_bit, raised_by}
-use Rattle.pas_same_text.proofs.Common.{AreSameGuards, has_number, IsSame, HasSame, number_of, IsValid, IsDirectoryOf, Directory, Event, Profile, Word, deed_in}
-use Rattle.pas_same_text.proofs.Common.{triples, events_by, Only, Always, usable_by_kind, part, word_after, visible, Made, Step, Deed, only_within}
-use Rattle.pas_same_text.proofs.{Common.{eligible_bit, right_in_one_place, LendsNone, lends_none, allocating, MadeOf, all_map, Raised}, StepMarks.IsMarked}
-use Rattle.pas_same_text.proofs.{StepMarks.{HintsPage, epoch_stays_by, seeks_unbacked}, Pieces.{all_in_run, IsPiece, UsesOnly, free_kept, hinted_before}}
-use Rattle.pas_same_text.proofs.{Pieces.piece_pages, KeepersRest.outer_last, StopActs.events_recorded, RunsFound.{with_deed, deeded, deeds_of, shown}}
-use Rattle.pas_same_text.proofs.{RunsFound.{shown_events, shown_records, shown_lives, shown_rest}, RestingPages.{open_from, deed_now, bit_tells, bit_offered}}
-use Rattle.pas_same_text.proofs.SoughtRuns.{IsRunOf, IsMadeOf, unowned_free, visible_mid, made_events, none_made, none_pages, IsSought}
-use Rattle.pas_same_text.proofs.GivenBlocks.{AreReadying, made_ready, ready_deeds, ready_lives}
+use Rattle.pas_same_text.proofs.Common.{cases_Bool, eqb-false, false≢true, or_cases, or_left, or_right, false_from_ne_true, MakesNoDeedHere, is_outer_of}
+use Rattle.pas_same_text.proofs.Common.{is_outer, seeking, SoughtNone, map-append, filter-append, same_Some, filter, AllByRecursion, Guard, Books, Progress}
+use Rattle.pas_same_text.proofs.Common.{records_of, World, is_offered, large_of, IsBetween, free_bit, raised_by, AreSameGuards, has_number, IsSame, HasSame}
+use Rattle.pas_same_text.proofs.Common.{number_of, IsValid, IsDirectoryOf, Directory, Event, Profile, Word, deed_in, triples, events_by, Only, Always}
+use Rattle.pas_same_text.proofs.Common.{usable_by_kind, part, word_after, visible, Made, Step, Deed, only_within, eligible_bit, right_in_one_place, LendsNone}
+use Rattle.pas_same_text.proofs.{Common.{lends_none, allocating, all_map, Raised}, StepMarks.{IsMarked, HintsPage, epoch_stays_by, seeks_unbacked}}
+use Rattle.pas_same_text.proofs.{Pieces.{IsPiece, UsesOnly, free_kept, hinted_before, piece_pages}, KeepersRest.outer_last, StopActs.events_recorded}
+use Rattle.pas_same_text.proofs.{RunsFound.{with_deed, deeded, deeds_of, shown, shown_events, shown_records, shown_lives, shown_rest}, RestingPages.open_from}
+use Rattle.pas_same_text.proofs.{RestingPages.{deed_now, bit_tells, bit_offered}, SoughtRuns.{IsRunOf, IsMadeOf, unowned_free, visible_mid, made_events}}
+use Rattle.pas_same_text.proofs.{SoughtRuns.{none_made, none_pages, IsSought}, GivenBlocks.{AreReadying, made_ready, ready_deeds, ready_lives}}
 use Rattle.std.proofs.Common.{map, ◌⊎◌, ne_eqb, append-nil, ◌≡◌, ℕ, ◌+◌, ◌*◌, ◌<◌, ◌==◌, Bool, true, false, if◌then◌else◌, List, [], ◌∷◌, ◌++◌, Some, inl, inr}
 use Rattle.std.proofs.Common.{refl, ap, sym, ◌∙◌, subst, arith, eq-eqb, eqb-true}
 
 -- ---- the pages whose deeds were made
--- whether the step made a deed or not, the list only grows
-older_listed : (s : Step) (a q : ℕ) (ps : List ℕ) → has_number ps q ≡ true → has_number (with_deed s a ps) q ≡ true
-older_listed s a q ps h = search arith
-
 newest_listed : (s : Step) (a q : ℕ) (e : Directory) (ps : List ℕ) → s ≡ Deed q e → a ≡ 0 → has_number (with_deed s a ps) q ≡ true
 newest_listed s a q e ps is zero = search (arith, eq-eqb, or_left)
 
@@ -26,7 +21,8 @@ pub unlisted_bare : (q : ℕ) (xs : List Made) → has_number (deeded xs) q ≡ 
 unlisted_bare q [] out = tt
 unlisted_bare q (m ∷ xs) out = (
   λ e is zero. false≢true (sym out ∙ newest_listed m.step m.answer q e (deeded xs) is zero),
-  unlisted_bare q xs (false_from_ne_true (has_number (deeded xs) q) (λ h. false≢true (sym out ∙ older_listed m.step m.answer q (deeded xs) h))),
+  unlisted_bare q xs (false_from_ne_true (has_number (deeded xs) q)
+      (λ h. false≢true (sym out ∙ (let it : has_number (with_deed m.step m.answer (deeded xs)) q ≡ true = search arith in it)))),
 )
 
 -- Each page of a list is listed.
@@ -69,11 +65,8 @@ module _ {f : Profile} {k heap n : ℕ} {p q : Progress} {w : World} {xs : List 
   abbrev v : World
   v = shown ds w
 
-  made_of : MadeOf d xs
-  made_of = none_made s found
-
   shown_is : visible q.list ≡ ds ++ w.events
-  shown_is = ap visible list ∙ visible_mid s made_of
+  shown_is = ap visible list ∙ visible_mid s (none_made s found)
 
   -- Afterwards the replay has what the text has.
   now : HasSame f q v
@@ -87,12 +80,10 @@ module _ {f : Profile} {k heap n : ℕ} {p q : Progress} {w : World} {xs : List 
   uses : (mine : ℕ → Bool) → UsesOnly p q mine
   uses mine = search (arith, shown_is, ready_lives, ready)
 
-  page_of : (x : ℕ) → has_number made x ≡ true → IsMadeOf n p.list (λ r. IsRunOf f heap n p.list r × (r < f.pages + 1)) x
-  page_of x h = all_listed (IsMadeOf n p.list (λ r. IsRunOf f heap n p.list r × (r < f.pages + 1))) made x (none_pages s found) h
-
   own_offer : (x : ℕ) (e : Directory) → has_number made x ≡ true → IsDirectoryOf f e → eligible_bit q.list (number_of e) x ≡ true → is_offered v e x ≡ true
   own_offer x e h = left_free f q v d s.valid there now x
-      (free_kept s.valid s.between there (uses (λ y. false)) (256 * x + 0) refl (unowned_free s x 0 (page_of x h).bare (omega arith))) refl
+      (free_kept s.valid s.between there (uses (λ y. false)) (256 * x + 0) refl (unowned_free s x 0
+      (all_listed (IsMadeOf n p.list (λ r. IsRunOf f heap n p.list r × (r < f.pages + 1))) made x (none_pages s found) h).bare (omega arith))) refl
       (ap (λ (es : List Event). deed_in es x) (shown_events ds w) ∙ deed_listed k d x made w.events h) e
 
   all_kinds : Only allocating xs
@@ -118,7 +109,8 @@ module _ {f : Profile} {k heap n : ℕ} {p q : Progress} {w : World} {xs : List 
   pub missed_same : IsSame f q v
   missed_same =
       let o = shown_rest ds w in
-      let lines = records ∙ (ap (λ es. p.records ++ records_of es) (made_events s made_of) ∙ events_recorded _ _ v.records ds s.same.records (shown_records ds w)) in
+      let lines = records ∙ (ap (λ es. p.records ++ records_of es) (made_events s (none_made s found))
+      ∙ events_recorded _ _ v.records ds s.same.records (shown_records ds w)) in
       let epochs = o.epoch ∙ (s.same.epoch ∙ sym (ap (λ m. word_after m Word.Epoch) list ∙ epoch_stays_by allocating refl k xs p.list all_kinds)) in
       assumption (piece_pages piece, now, o.names ∙ (s.same.names ∙ sym names), lines, epochs, o.read ∙ (s.same.read ∙ sym epoch))
 
@@ -157,11 +149,3 @@ module _ {books books' : Books} (k : ℕ) (g : Guard) (own : books' k ≡ books 
       last : (gs : List Guard) → is_outer (gs ++ g ∷ []) x ≡ true
       last [] = or_left (is_outer_of g x) false here
       last (h ∷ gs) = or_right (is_outer_of h x) (is_outer (gs ++ g ∷ []) x) (last gs)
-
--- The pages that are left are those of its run.
-pub left_in_run : (first n : ℕ) → AllByRecursion (IsInRun first (n + 2)) (left_last_first first n)
-left_in_run first n = search (arith, all_map, all_in_run)
-
--- A page of the run is an inner one, or an outer one.
-pub inner_or : (first n x : ℕ) → IsInRun first (n + 2) x → IsInRun (first + 1) n x ⊎ ((first ≡ x) ⊎ (first + n + 1 ≡ x))
-inner_or first n x here = search (arith, cases_lt)

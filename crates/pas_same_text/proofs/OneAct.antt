@@ -108,13 +108,10 @@ hands_on_own threads f (Act.Settles k) own is few = thread_of threads f k is few
 hands_on_own threads f (Act.Guards keeper op) own is few = own
 hands_on_own threads f act own is few = tt
 
-own_kept : (threads : ℕ) (f : Profile) (act : Act) → IsOwn act → KeepsSame threads f act
-own_kept threads f act own p p' w indexes known = record {
-  same = own_same threads f act own p p' w indexes known;
-  indexes_are = indexes_kept f act p p' w indexes (hands_on_own threads f act own known.planned.0 known.seated.few) known.taken known.indexes_are;
-}
-
 -- ---- AN ACT
 pub act_same : (threads : ℕ) (f : Profile) (act : Act) → KeepsSame threads f act
 act_same threads f (Act.Guards keeper op) = by_what threads f keeper op.line op.actor op.what
-act_same threads f act = own_kept threads f act tt
+act_same threads f act = λ p p' w indexes known. record {
+  same = own_same threads f act tt p p' w indexes known;
+  indexes_are = indexes_kept f act p p' w indexes (hands_on_own threads f act tt known.planned.0 known.seated.few) known.taken known.indexes_are;
+}

@@ -1,23 +1,22 @@
 -- A REQUEST FOR WHOLE PAGES THAT IS SERVED by a run: its pages get deeds and memory where they have none, the lowest first, and their block is given.
-use Rattle.pas_same_text.proofs.GivenRuns.{GivesPages, all_kinds, backs_text, deed_mid, gives_it, lives_within, page_used, run_pages, shown_mid}
-use Rattle.pas_same_text.proofs.{MissedGuards.all_listed, CacheLists.{same_kept, kept_at}, SmallActs.after_with, FreeGrains.guards_as, RunsFound.shown}
-use Rattle.pas_same_text.proofs.RunsFound.{shown_rest, DeedsInRun, in_turn, each_in_turn, deeded, deeds_of, deeded_falls, deeded_within, deeds_in_turn}
-use Rattle.pas_same_text.proofs.{RunsFound.deeds_in_run, Pieces.{UsesOnly, LeftInTurn, all_in_run, has_same}, Common.{has_number, false≢true, deed_word_of}}
-use Rattle.pas_same_text.proofs.Common.{IsValid, IsDirectoryOf, Directory, Event, Block, Profile, deed_word_of-positive, Run, deed_in, triples, events_by}
-use Rattle.pas_same_text.proofs.Common.{InTurn, Always, View, Only, part, Legal, Made, only_within, always_map, word_of_deed, deed_of, runs, agreed_steps}
-use Rattle.pas_same_text.proofs.Common.{legal_earlier, give_steps, IsInRun, ReturnsDuly, in_span, DeedsRise, MayFind, finding, BackStep, pages_from, seeking}
-use Rattle.pas_same_text.proofs.Common.{MadeOf, span_in, AtRest, Cached, any_covers, may_find, Record, IsThread, Progress, named, records_of}
-use Rattle.pas_same_text.proofs.Common.{with_cache as with_cached, World, large_of, IsSame, HasSame, AreSameCaches, IsBetween, deeds, backs, address_on, gives}
-use Rattle.pas_same_text.proofs.Common.{run_block, GotPages, lowest_alone, lends_none, IsLone, address_of, IsAdmitted, route_in, room_in, is_shared}
-use Rattle.pas_same_text.proofs.Common.{kind_of_route, Route, NoRoom, Whole, Kinds, kind_of, is_in, apart, showing, looking, triples_append, part_of_own}
-use Rattle.pas_same_text.proofs.Common.{always_both, in_apart, only_both, AreQuiet, IsQuiet, IsServedNamed, IsScanned, Indexes, found_in, IsLowestRun}
-use Rattle.pas_same_text.proofs.Common.{IsNamedWhole, ServesPages, wanted_for, Act, Request, Alloc, Answer, after_answer, said_of_request}
-use Rattle.pas_same_text.proofs.{Common.{block_of as block_answered, IsNamedBy, serves, acts_on, IsTaken, named_run, lowest_run}, GivenBlocks.epoch_now}
-use Rattle.pas_same_text.proofs.{GivenBlocks.{events_now, live_now, names_now, records_now}, SearchedPages.{refused_to, refused_same, lowest_found}}
+use Rattle.pas_same_text.proofs.{Pieces.{piece_pages, UsesOnly, LeftInTurn, all_in_run, has_same}, GivenRuns.{piece, GivesPages, all_kinds, backs_text}}
+use Rattle.pas_same_text.proofs.{GivenRuns.{deed_mid, gives_it, lives_within, page_used, shown_mid}, MissedGuards.all_listed, CacheLists.{same_kept, kept_at}}
+use Rattle.pas_same_text.proofs.{SmallActs.after_with, FreeGrains.guards_as, RunsFound.{shown, shown_rest, DeedsInRun, in_turn, each_in_turn, deeded, deeds_of}}
+use Rattle.pas_same_text.proofs.{RunsFound.{deeded_falls, deeded_within, deeds_in_turn, deeds_in_run}, Common.{has_number, false≢true, IsValid, IsDirectoryOf}}
+use Rattle.pas_same_text.proofs.Common.{Directory, Event, Block, Profile, deed_word_of-positive, Run, triples, events_by, InTurn, Always, View, Only, part}
+use Rattle.pas_same_text.proofs.Common.{Legal, Made, only_within, always_map, word_of_deed, deed_of, runs, agreed_steps, legal_earlier, give_steps, IsInRun}
+use Rattle.pas_same_text.proofs.Common.{ReturnsDuly, in_span, DeedsRise, MayFind, finding, BackStep, pages_from, seeking, MadeOf, span_in, AtRest, Cached}
+use Rattle.pas_same_text.proofs.Common.{any_covers, may_find, Record, IsThread, Progress, named, records_of, with_cache as with_cached, World, large_of, IsSame}
+use Rattle.pas_same_text.proofs.Common.{HasSame, AreSameCaches, IsBetween, deeds, backs, address_on, gives, run_block, GotPages, lowest_alone, lends_none}
+use Rattle.pas_same_text.proofs.Common.{IsLone, address_of, IsAdmitted, route_in, room_in, is_shared, kind_of_route, Route, NoRoom, Whole, Kinds, apart}
+use Rattle.pas_same_text.proofs.Common.{showing, looking, triples_append, part_of_own, always_both, in_apart, only_both, AreQuiet, IsQuiet, IsServedNamed}
+use Rattle.pas_same_text.proofs.Common.{IsScanned, Indexes, found_in, IsLowestRun, IsNamedWhole, ServesPages, wanted_for, Act, Request, Alloc, Answer}
+use Rattle.pas_same_text.proofs.Common.{after_answer, said_of_request, block_of as block_answered, IsNamedBy, serves, acts_on, IsTaken, named_run, lowest_run}
+use Rattle.pas_same_text.proofs.{GivenBlocks.{epoch_now, events_now, live_now, names_now, records_now}, SearchedPages.{refused_to, refused_same, lowest_found}}
 use Rattle.pas_same_text.proofs.{SearchedPages.{none_lowest, named_whole, whole_named}, CachedSlots.{HasAsked, answer_reached, by_route, request_taken}}
 use Rattle.pas_same_text.specs.{Runs.{gives_pages, run_or, serves_run}, Indexes.loses_named}
 use Rattle.std.proofs.Common.{false, ◌≡◌, ◌≢◌, ℕ, ◌+◌, ◌*◌, ◌≤◌, ◌==◌, true, List, ◌∷◌, ◌++◌, Option, None, Some, inl, refl, ap, sym, ◌∙◌, subst, arith}
-use Rattle.std.proofs.Common.{append-nil, ◌/◌, Result, Ok, Err, ◌⊎◌, inr, append_assoc, true≢false}
+use Rattle.std.proofs.Common.{append-nil, ◌/◌, Result, Ok, Err, ◌⊎◌, inr, append_assoc}
 use Rattle.pas_steps.{specs.Calls.Leads, proofs.Apart.no_event}
 use Rattle.pas_large.proofs.{Lifted.find_again, Pages.rise_none, Allocates.{tried_lone, holds_whole, scans_only, goes_by_door, refused_alone}}
 use Rattle.pas_large.specs.{Allocates.{IsAllocatedLarge, IsAllocatedNamed}, Alone.GoesByDoor, Pages.claiming_old}
@@ -46,9 +45,6 @@ pub record GaveRun (f : Profile) (large : Directory) (first n : ℕ) (got after 
 -- the replay after them
 abbrev pub given_to : Progress → ℕ → ℕ → List Made → Block → Progress
 given_to p k name steps block = after_with p k steps None (named name (Some block) ∷ p.names) (p.caches k)
-
-no_deed_there : (large : Directory) (o : Option Directory) → word_of_deed o ≡ deed_word_of large → o ≢ None
-no_deed_there large o word none = deed_word_of-positive large (sym word ∙ ap word_of_deed none)
 
 module _ (f : Profile) (k name heap first n : ℕ) (p : Progress) (u : World) (got rest : List Made) (block : Block) (valid : IsValid f) (thread : IsThread f k)
     (of : IsDirectoryOf f (large_of heap)) (some : 1 ≤ n) (before : IsBetween f p) (rest_now : AtRest f (p.caches k) (part k p.list)) (same : IsSame f p u)
@@ -82,12 +78,10 @@ module _ (f : Profile) (k name heap first n : ℕ) (p : Progress) (u : World) (g
   abbrev es : List Event
   es = events_by k (part k (triples k got ++ p.list)) run.backs ++ ds
 
-  deeds_there : (x : ℕ) → IsInRun first n x → deed_in (ds ++ u.events) x ≢ None
-  deeds_there x here = no_deed_there large _ (cc (shown_mid given, deed_of f (triples k got ++ p.list) legal_given x, deed_mid given x here))
-
   deeds_text : in_turn (deeds k large) first n u ≡ shown ds u
   deeds_text = deeds_in_turn k large f n first _ u (deeded_falls k large got run.rise) (deeded_within k large n first got run.deeds_in)
-      (subst (Run f) (shown_mid given) (runs f (triples k got ++ p.list) valid legal_given)) deeds_there
+      (subst (Run f) (shown_mid given) (runs f (triples k got ++ p.list) valid legal_given)) (λ x here. λ none. deed_word_of-positive large
+      (sym (cc (shown_mid given, deed_of f (triples k got ++ p.list) legal_given x, deed_mid given x here)) ∙ ap word_of_deed none))
 
   abbrev v : World
   v = gives k name heap (address_on first 0) (4096 * n) (shown es u)
@@ -112,16 +106,14 @@ module _ (f : Profile) (k name heap first n : ℕ) (p : Progress) (u : World) (g
       let here : IsInRun first n x = all_listed (IsInRun first n) (deeded got) x (deeded_within k large n first got run.deeds_in) made in
       false≢true (sym out ∙ span_in first (first + n) x here.0 here.1)
 
-  given_same : IsSame f q v
-  given_same =
-      let g = gives_it given in
-      let pages_got = run_pages given (page_used given) v same_now uses (λ x. refl) (shown_rest es u).hinted (λ x e out made of bit. absurd (none_listed x out made)) in
-      let records = ap (λ (rs : List Record). p.records ++ rs) (append-nil (records_of (events_by k own (rest ++ got)))) ∙ records_now g in
-      assumption (pages_got, records, names_now g name, epoch_now g (all_kinds given), (shown_rest es u).read ∙ same.read, same_now)
-
   -- A run of whole pages that was found and given leads the text to the replay's state.
   run_given : IsSame f q (gives_pages k name heap first n u)
-  run_given = subst (λ (x : World). IsSame f q x) (sym (search (arith, each_in_turn, deeds_text, backs_text given))) given_same
+  run_given = subst (λ (x : World). IsSame f q x)
+      (sym (search (arith, each_in_turn, deeds_text, backs_text given))) (let it : IsSame f q v = let g = gives_it given in
+      let pages_got = piece_pages
+      (piece given (page_used given) v same_now uses (λ x. refl) (shown_rest es u).hinted (λ x e out made of bit. absurd (none_listed x out made))) in
+      let records = ap (λ (rs : List Record). p.records ++ rs) (append-nil (records_of (events_by k own (rest ++ got)))) ∙ records_now g in
+      assumption (pages_got, records, names_now g name, epoch_now g (all_kinds given), (shown_rest es u).read ∙ same.read, same_now) in it)
 
 -- A REQUEST FOR WHOLE PAGES: by the run that the heap's index named, where it is whole, or else by the lowest usable one; or it is refused, and changes no page.
 
@@ -132,40 +124,28 @@ quiet_by : (ks : Kinds) → apart ks showing ≡ true → (steps : List Made) �
 quiet_by ks out steps = always_map _ (λ m before. IsQuiet m) steps (λ m before is k epoch. no_event k epoch m.step m.answer (in_apart ks showing _ out is))
 
 -- ---- a run that was given
--- steps that make no deed
-no_deeds : (d : Directory) (first n : ℕ) (steps : List Made) → Only claiming_old steps → DeedsInRun d first n steps
-no_deeds d first n steps = always_map _ _ steps (λ m before is page e same zero. absurd (true≢false (sym is ∙ ap (λ s. is_in claiming_old (kind_of s)) same)))
-
 module _ (f : Profile) (k : ℕ) (l : Whole) (d : Directory) (n : ℕ) (found : Option ℕ) (tried rest : List Made) (block : Block) (of : IsDirectoryOf f d)
     (old : Only claiming_old tried) (returns : Always ReturnsDuly tried) (legal : Legal f (triples k (rest ++ tried) ++ l)) (met : MayFind d (part k l)) where
-  named_gave : (is : IsAllocatedNamed f d n found tried rest block) → GaveRun f d is.first n tried rest block
-  named_gave is = search (arith, only_within, no_deeds, rise_none)
-
   module _ (searched after : List Made) (kinds : Only finding searched) (due : Always ReturnsDuly searched) (rest_is : rest ≡ after ++ searched)
       (is : IsAllocatedLarge f d n (searched ++ tried) after block) where
     abbrev xs : List Made
     xs = searched ++ tried
 
-    whole_steps : rest ++ tried ≡ after ++ xs
-    whole_steps = ap (λ (ms : List Made). ms ++ tried) rest_is ∙ append_assoc after searched tried
-
     legal_got : Legal f (triples k xs ++ l)
-    legal_got = legal_earlier f k after xs l (subst (λ (ms : List Made). Legal f (triples k ms ++ l)) whole_steps legal)
+    legal_got = legal_earlier f k after xs l
+        (subst (λ (ms : List Made). Legal f (triples k ms ++ l)) (ap (λ (ms : List Made). ms ++ tried) rest_is ∙ append_assoc after searched tried) legal)
 
     got_kinds : Only finding xs
     got_kinds = only_both finding searched tried kinds (only_within claiming_old finding tried refl old)
 
-    got_due : Always ReturnsDuly xs
-    got_due = duly_both searched tried due returns
-
     got_lone : IsLone f k l xs
-    got_lone = record { legal = legal_got; lends_none = lends_none finding refl xs got_kinds; returns = got_due }
+    got_lone = record { legal = legal_got; lends_none = lends_none finding refl xs got_kinds; returns = duly_both searched tried due returns }
 
     scanned_lowest : IsLowestRun f d n l is.first
     scanned_lowest = lowest_alone f k l d n of.kind met is.first xs got_lone is.found
 
     scanned_gave : GaveRun f d is.first n xs after block
-    scanned_gave = let deeds = deeds_in_run f k l d n of.kind met xs got_lone is.first is.found in search (arith, got_kinds, got_due, deeds)
+    scanned_gave = let deeds = deeds_in_run f k l d n of.kind met xs got_lone is.first is.found in search (arith, got_kinds, duly_both, deeds)
 
 -- ---- THE REQUEST
 module _ (f : Profile) (k name heap size align : ℕ) (p : Progress) (a : Answer) (w : World) (admitted : IsAdmitted f size align heap)
@@ -198,10 +178,6 @@ module _ (f : Profile) (k name heap size align : ℕ) (p : Progress) (a : Answer
   -- The actor may search for a run.
   may : MayFind d (part k p.list)
   may = may_find f (part k p.list) heap c.locals asked.served.rest.locals
-
-  -- none of what is the same looks at the indexes
-  same_u : IsSame f p u
-  same_u = search arith
 
   -- Before the request the replay has what the text has.
   old : HasSame f p w
@@ -252,7 +228,8 @@ module _ (f : Profile) (k name heap size align : ℕ) (p : Progress) (a : Answer
   served_same block is first got rest steps run chosen =
       let all : after_answer p k a ≡ given_to p k name (rest ++ got) block = to (Ok block) is ∙ ap (λ (ms : List Made). given_to p k name ms block) steps in
       rw (text_by (Some first) chosen, all)
-      (run_given f k name heap first n p u got rest block asked.valid asked.thread of some asked.before asked.served.rest same_u (rw all at asked.after) run)
+      (run_given f k name heap first n p u got rest block asked.valid asked.thread of some asked.before asked.served.rest (search arith)
+      (rw all at asked.after) run)
 
   named_served : (block : Block) (is : asked.served.answer ≡ Ok block)
       → IsServedNamed f d n a.found (by_pages (Ok block) is).tried (by_pages (Ok block) is).rest (Ok block) → LeavesSame
@@ -262,7 +239,7 @@ module _ (f : Profile) (k name heap size align : ℕ) (p : Progress) (a : Answer
       let alloc : IsAllocatedNamed f d n a.found pages.tried pages.rest block = rw one at by.2 in
       let legal : Legal f (triples k (pages.rest ++ pages.tried) ++ p.list) = (there (Ok block) is).legal in
       let whole = holds_whole f k p.list d n _ a.found _ of.kind (tried_lone f k p.list d n a.found pages.tried pages.rest pages.old pages.returns legal may) alloc.holds_it in
-      served_same block is _ pages.tried pages.rest refl (named_gave f k p.list d n a.found pages.tried pages.rest block of pages.old pages.returns legal may alloc)
+      served_same block is _ pages.tried pages.rest refl (search (arith, only_within, always_map, rise_none))
       (ap (λ (o : Option ℕ). run_or o (lowest_run f w heap n))
       (whole_named f p w asked.valid asked.before asked.same.pages old heap of n alloc.first (rw named_is at whole)))
 
@@ -315,7 +292,8 @@ module _ (f : Profile) (k name heap size align : ℕ) (p : Progress) (a : Answer
       let quiet = always_both _ _ pages.rest _ (λ m before h. h) (quiet_by looking refl pages.rest looked) (quiet_by claiming_old refl pages.tried pages.old) in
       let none : run_or (named_run w heap n) (lowest_run f w heap n) ≡ None =
       ap (λ o. run_or o (lowest_run f w heap n)) (no_named room is _ refl) ∙ none_lowest f p w asked.valid asked.before asked.same.pages old heap of n told.0 in
-      rw (text_by None none, to (Err room) is) (refused_same f k name p u d steps room asked.valid asked.thread of asked.before now same_u
+      -- none of what is the same looks at the indexes
+      rw (text_by None none, to (Err room) is) (refused_same f k name p u d steps room asked.valid asked.thread of asked.before now (search arith)
       (search (arith, only_both, only_within, duly_both, duly_none)) quiet told.2)
 
   -- ---- any

@@ -1,20 +1,20 @@
 -- PASSES as acts: what a pass does in the text, page by page; then the pages that were hinted come to the outcomes of the text, and their hints and offers are those
 -- of the text afterwards.
+use Rattle.pas_same_text.proofs.{PassOrder.{past_words, IsPast, falling, falling_skips, rising}, Common.{false≢true, or_cases, or_left, not_from_false}}
+use Rattle.pas_same_text.proofs.Common.{cases_Bool, false_from_ne_true, reverse_onto, reverse-append, reverse-reverse, fun_ext, find, filter, Event, Outcome}
+use Rattle.pas_same_text.proofs.Common.{Profile, Directory, Word, backed_in, epoch_in, unbacks_in, outcomes_in, all_tried, Progress, Record, Said, numbers_from}
+use Rattle.pas_same_text.proofs.Common.{Act, World, each, says, acts_on, IsBetween, IsTaken, AreEndsStamped, page_numbers, is_free, is_hinted, is_empty}
+use Rattle.pas_same_text.proofs.Common.{is_offered, outcome_backed, outcome_of, has_number, lives_in, IsSame, HasSame, AreSameCaches, number_of, IsValid}
+use Rattle.pas_same_text.proofs.Common.{IsPage, IsDirectoryOf, same_from_deed_word, made, triples, part, word_after, visible, Legal, Made, Look, same_truth}
+use Rattle.pas_same_text.proofs.{Common.{empty_bit, eligible_bit, legal_earlier, deed_same, offered_deed, hinted_page}, CacheLists.all_locals}
+use Rattle.pas_same_text.proofs.{Tests.{filtered_has, has_filtered}, Flushes.{visible_steps, map_reverse}, StepMarks.{OffersPage, offered_by, epoch_stays_by}}
+use Rattle.pas_same_text.proofs.{FreeGrains.{guards_as, still_unguarded}, GivenBack.{free_kept, empty_kept, is_idle, page_there}, PassOutcomes.pair}
+use Rattle.pas_same_text.proofs.{PassOutcomes.{stays_hinted, WasOffered, has_same}, RestingPages.{open_grows, page_idle, idle_hinted, is_open, had_open}}
+use Rattle.pas_same_text.{proofs.RestingPages.{offered_bit, bit_offered}, specs.Passes.{passes, free_bits, comes_to, examines}}
+use Rattle.pas_profile.specs.Profiles.{vector_words}
 use Rattle.std.proofs.Common.{◌≡◌, ℕ, zero, suc, ◌+◌, ◌*◌, ◌^◌, ◌≤◌, ◌==◌, Bool, true, false, not, if◌then◌else◌, List, [], ◌∷◌, ◌++◌, map, reverse}
 use Rattle.std.proofs.Common.{append_assoc, append-nil, Option, None, Some, refl, ap, sym, ◌∙◌, subst, arith, true≢false, eq-eqb, eqb-true, ne_eqb, ◌<◌, ◌&&◌}
 use Rattle.std.proofs.{Common.{inl, inr}, lemmas.{List.{Concat.flat_map-append, Elements.filter_agree}, Simd.map-map}}
-use Rattle.pas_same_text.proofs.Common.{false≢true, or_cases, or_left, not_from_false, cases_Bool, false_from_ne_true, reverse_onto, reverse-append}
-use Rattle.pas_same_text.proofs.Common.{reverse-reverse, fun_ext, find, filter, Event, Outcome, Profile, Directory, Word, backed_in, epoch_in, unbacks_in}
-use Rattle.pas_same_text.proofs.Common.{outcomes_in, all_tried, Progress, Record, Said, numbers_from, Act, World, each, says, acts_on, IsBetween, IsTaken}
-use Rattle.pas_same_text.proofs.Common.{AreEndsStamped, page_numbers, is_free, is_hinted, is_empty, is_offered, outcome_backed, outcome_of, has_number}
-use Rattle.pas_same_text.proofs.Common.{lives_in, IsSame, HasSame, AreSameCaches, number_of, IsValid, IsPage, IsDirectoryOf, vector_words, same_from_deed_word}
-use Rattle.pas_same_text.proofs.Common.{made, triples, part, word_after, visible, Legal, Made, Look, same_truth, empty_bit, eligible_bit, legal_earlier}
-use Rattle.pas_same_text.proofs.{Common.{deed_same, offered_deed, hinted_page}, CacheLists.all_locals, Tests.{filtered_has, has_filtered}}
-use Rattle.pas_same_text.proofs.{Flushes.{visible_steps, map_reverse}, StepMarks.{OffersPage, offered_by, epoch_stays_by}, FreeGrains.guards_as}
-use Rattle.pas_same_text.proofs.{FreeGrains.still_unguarded, GivenBack.{free_kept, empty_kept, is_idle, page_there}, PassOutcomes.{pair, stays_hinted}}
-use Rattle.pas_same_text.proofs.{PassOutcomes.{WasOffered, has_same}, RestingPages.{open_grows, page_idle, idle_hinted, is_open, had_open, offered_bit}}
-use Rattle.pas_same_text.{proofs.{RestingPages.bit_offered, PassOrder.{IsPast, falling, falling_skips, rising, past_all}}, specs.Passes.{passes, free_bits}}
-use Rattle.pas_same_text.specs.Passes.{comes_to, examines}
 use Rattle.pas_scavenger.specs.{Pages.unback_of, Passes.{passing, PassSteps}}
 use Rattle.pas_answers.specs.{PassRecords.record_of, Answers.after_pass}
 
@@ -37,16 +37,13 @@ record JudgesSame (page : ℕ) (w v : World) : Type 0 where
   epoch : v.epoch ≡ w.epoch
 
 module _ (f : Profile) (page : ℕ) (w v : World) (s : JudgesSame page w v) where
-  free_same : (b : ℕ) → is_free v page b ≡ is_free w page b
-  free_same b = free_kept w v page b s.live (ap all_locals s.caches)
-
   -- both come to the outcome by the same words, and who keeps the page is read of the caches alone
   backed_same : (o : Option ℕ) → outcome_backed f v page o ≡ outcome_backed f w page o
-  backed_same (Some word) = ap (λ (n : ℕ). Outcome.InUse word n) (bits_same w v page word free_same 64)
+  backed_same (Some word) = ap (λ (n : ℕ). Outcome.InUse word n) (bits_same w v page word (λ b. free_kept w v page b s.live (ap all_locals s.caches)) 64)
   backed_same None = search arith
 
   outcome_same : outcome_of f v page ≡ outcome_of f w page
-  outcome_same = search (arith, find_same, free_same, backed_same)
+  outcome_same = search (arith, find_same, free_kept, backed_same)
 
 -- ---- a page comes to an outcome
 come_events : (page : ℕ) (o : Outcome) (w : World) → (comes_to page o w).events ≡ unback_of 0 w.epoch page o ++ w.events
@@ -61,9 +58,6 @@ come_hinted : (page : ℕ) (o : Outcome) (w : World) → (comes_to page o w).hin
 come_hinted page Outcome.Unbacked w = refl
 come_hinted page o w = refl
 
-come_backed : (page : ℕ) (o : Outcome) (w : World) (q : ℕ) → (page ≡ q → stays_hinted o ≡ true) → backed_in (comes_to page o w).events q ≡ backed_in w.events q
-come_backed page o w q stays = search (arith, ne_eqb, false≢true)
-
 -- what else a state has
 pub record HasLeft (w v : World) : Type 0 where
   pub live : v.live ≡ w.live
@@ -77,10 +71,6 @@ pub record HasLeft (w v : World) : Type 0 where
 come_left : (page : ℕ) (o : Outcome) (w : World) → HasLeft w (comes_to page o w)
 come_left page Outcome.Unbacked w = record { live = refl; lives = refl; names = refl; caches = refl; guards = refl; epoch = refl; read = refl }
 come_left page o w = record { live = refl; lives = refl; names = refl; caches = refl; guards = refl; epoch = refl; read = refl }
-
--- other pages are judged as before
-come_judges : (page : ℕ) (o : Outcome) (w : World) (q : ℕ) → (page ≡ q → ⊥) → JudgesSame q w (comes_to page o w)
-come_judges page o w q ne = search (arith, come_backed)
 
 -- ---- hints: the page loses its own where its outcome ends it
 hint_was : (page : ℕ) (stays : Bool) (hinted : List ℕ) (q : ℕ) → has_number (if stays then hinted else filter (λ p. not (p == page)) hinted) q ≡ true
@@ -130,7 +120,8 @@ all_come out (page ∷ pages) w =
       events = cc (come_events page (out page) w, last_unback w.epoch page (out page) (map (λ q. pair q (out q)) pages) w.events);
       records = search (arith, come_records, last_record);
       left = search arith;
-      backed = λ q stays. r.backed q stays ∙ come_backed page (out page) w q (λ e. ap (λ (y : ℕ). stays_hinted (out y)) e ∙ stays);
+      backed = λ q stays. r.backed q stays
+          ∙ (let it : backed_in (comes_to page (out page) w).events q ≡ backed_in w.events q = search (arith, ne_eqb, false≢true) in it);
       hinted_was = λ q h. hint_was page (stays_hinted (out page)) w.hinted q (sym (ap (λ (hs : List ℕ). has_number hs q) hints) ∙ r.hinted_was q h);
       hinted_so = search (arith, or_cases, eqb-true, hint_so);
       hinted_still = search (arith, hint_still, or_left, eq-eqb);
@@ -154,24 +145,11 @@ module _ (f : Profile) (w : World) (test : ℕ → Bool) where
   all_examined (suc n) k v agree =
       let x : World = comes_to k (out k) v in
       one_examined v k (filter test (numbers_from (k + 1) n)) (test k) (agree k (omega arith))
-      (all_examined n (k + 1) x (λ q low. outcome_same f q v x (come_judges k (out k) v q (λ e. absurd (omega (arith, e, low)))) ∙ agree q (omega (arith, low))))
+      (all_examined n (k + 1) x (λ q low. outcome_same f q v x (search (arith, ne_eqb, false≢true)) ∙ agree q (omega (arith, low))))
       (all_examined n (k + 1) v (λ q low. agree q (omega (arith, low))))
-
--- A PASS
-pass_comes : (f : Profile) (w : World)
-    → HasCome (outcome_of f w) (filter (is_hinted w) (page_numbers f)) (says (Record.Said 0 (Said.Pass w.epoch)) w) (passes f w)
-pass_comes f w =
-    let v : World = says (Record.Said 0 (Said.Pass w.epoch)) w in
-    subst (HasCome (outcome_of f w) (filter (is_hinted w) (page_numbers f)) v)
-    (sym (all_examined f w (is_hinted w) f.pages 1 v (λ q low. outcome_same f q w v (record { backed = refl; ended = refl; live = refl; caches = refl; epoch = refl }))))
-    (all_come (outcome_of f w) (filter (is_hinted w) (page_numbers f)) v)
 
 -- ==== PASSES as acts: the pages that were hinted come to the outcomes of the text, and their hints and offers are those of the text afterwards.
 -- ---- lists
-turned_records : (ws rs : List Record) (r : Record) → reverse (reverse rs ++ (r ∷ ws)) ≡ reverse ws ++ (r ∷ rs)
-turned_records ws rs r =
-    cc (reverse-append (reverse rs) (r ∷ ws), reverse-reverse rs, reverse_onto ws r [], append_assoc (reverse ws) (r ∷ []) rs)
-
 module _ (f : Profile) (p : Progress) (w : World) (epoch : ℕ) (found : List (ℕ × Outcome)) (steps : List Made) (valid : IsValid f) (before : IsBetween f p)
     (same : IsSame f p w) (stamped : AreEndsStamped p.list)
     (order : PassSteps f 0 epoch found steps) (after : IsBetween f (after_pass p epoch found steps)) where
@@ -206,28 +184,26 @@ module _ (f : Profile) (p : Progress) (w : World) (epoch : ℕ) (found : List (�
 
   -- What the pass read so far is so in the text.
   past : IsPast f w p.list bound (order.read ++ look) (outcomes_in (all_tried order.words))
-  past = past_all f p w valid before same stamped epoch now order.words order.read order.numbers_are order.order whole
+  past = past_words f p w valid before same stamped epoch now (vector_words f.pages) order.words order.read
+      (made (Look Word.Epoch) epoch ∷ []) order.numbers_are order.order whole (search arith)
 
   -- Each outcome of the pass comes in the text.
   come : HasCome (outcome_of f w) pages (says (Record.Said 0 (Said.Pass w.epoch)) w) v
-  come = pass_comes f w
+  come = let v : World = says (Record.Said 0 (Said.Pass w.epoch)) w in
+      subst (HasCome (outcome_of f w) (filter (is_hinted w) (page_numbers f)) v)
+      (sym (all_examined f w (is_hinted w) f.pages 1 v
+      (λ q low. outcome_same f q w v (record { backed = refl; ended = refl; live = refl; caches = refl; epoch = refl }))))
+      (all_come (outcome_of f w) (filter (is_hinted w) (page_numbers f)) v)
 
   -- ---- the pages, and what was found
-  below : (q : ℕ) → IsPage f q → q < bound
-  below q of = omega (arith, of.1)
-
-  pages_are : pages ≡ reverse (falling hinted bound)
-  pages_are =
-      filter_agree (is_hinted w) hinted same.pages.hinted (page_numbers f)
-      ∙ (rising hinted (false_from_ne_true (hinted 0) (λ bit. let is = hinted_page f p.list before.legal 0 bit in omega (arith, is.0))) f.pages
-      ∙ ap reverse (sym (falling_skips hinted (suc f.pages) bound (omega arith)
-      (λ q low high. false_from_ne_true (hinted q) (λ bit. let is = hinted_page f p.list before.legal q bit in omega (arith, is.1, low))))))
-
   found_are : found ≡ map told pages
   found_are =
       sym (reverse-reverse found)
       ∙ (ap reverse (order.found_are ∙ past.found_are)
-      ∙ (sym (map_reverse told (falling hinted bound)) ∙ ap (map told) (sym pages_are)))
+      ∙ (sym (map_reverse told (falling hinted bound)) ∙ ap (map told) (sym (filter_agree (is_hinted w) hinted same.pages.hinted (page_numbers f)
+      ∙ (rising hinted (false_from_ne_true (hinted 0) (λ bit. let is = hinted_page f p.list before.legal 0 bit in omega (arith, is.0))) f.pages
+      ∙ ap reverse (sym (falling_skips hinted (suc f.pages) bound (omega arith)
+      (λ q low high. false_from_ne_true (hinted q) (λ bit. let is = hinted_page f p.list before.legal q bit in omega (arith, is.1, low))))))))))
 
   -- ---- events, blocks and caches
   events : v.events ≡ visible p'.list
@@ -255,7 +231,7 @@ module _ (f : Profile) (p : Progress) (w : World) (epoch : ℕ) (found : List (�
       let of : IsPage f q = hinted_page f p.list before.legal q bit in
       let there : has_number pages q ≡ true = has_filtered (is_hinted w) (page_numbers f) q old (page_there f q of) in
       let stays : stays_hinted (outcome_of f w q) ≡ true = come.hinted_so q there h in
-      let idle : is_idle w q ≡ true = page_idle f p w valid before (has_same f p w valid before same stamped) q (past.idle q (below q of) bit stays) in
+      let idle : is_idle w q ≡ true = page_idle f p w valid before (has_same f p w valid before same stamped) q (past.idle q (omega (arith, of.1)) bit stays) in
       let still : is_idle v q ≡ is_idle w q =
       ap (λ (t : Bool). t && is_empty v q) (come.backed q stays) ∙ ap (λ (t : Bool). backed_in w.events q && t) (empty_kept w v q (λ b small. free_is q b)) in
       idle_hinted f p' v valid after has q (still ∙ idle)
@@ -267,24 +243,13 @@ module _ (f : Profile) (p : Progress) (w : World) (epoch : ℕ) (found : List (�
         let of : IsPage f q = hinted_page f p'.list after.legal q bit in
         let gone : (hinted q ≡ true → stays_hinted (outcome_of f w q) ≡ false) = λ old. false_from_ne_true (stays_hinted (outcome_of f w q)) (λ stays.
         false≢true (sym none ∙ come.hinted_still q (same.pages.hinted q ∙ old) (λ there. stays))) in
-        let clear = ap (λ (ms : List Made). empty_bit (triples 0 ms ++ p.list) q) order.steps_are ∙ past.bits q (below q of) gone in
+        let clear = ap (λ (ms : List Made). empty_bit (triples 0 ms ++ p.list) q) order.steps_are ∙ past.bits q (omega (arith, of.1)) gone in
         absurd (false≢true (sym clear ∙ bit))
   ]
 
   -- ---- offers
   was_open : (q : ℕ) (d : Directory) → IsDirectoryOf f d → eligible_bit p.list (number_of d) q ≡ true → is_open v d q ≡ true
   was_open q d of bit = open_grows w v d q (still_unguarded w v q come.left.guards) (λ b small h. free_is q b ∙ h) (had_open w d q (same.pages.offered q d of ∙ bit))
-
-  from_offer : (q : ℕ) (d : Directory) → IsDirectoryOf f d → eligible_bit p'.list (number_of d) q ≡ true → is_offered v d q ≡ true
-  from_offer q d of bit = bit_offered f p' v valid after has q d of bit (elim (offered_by 0 steps p.list (number_of d) q bit) [
-    | inl old ↦ was_open q d of old
-    | inr offer ↦
-        let o : WasOffered f p.list q = past.offers q (subst (OffersPage q) order.steps_are offer) in
-        let word : word_after p'.list (Word.Deed q) ≡ word_after p.list (Word.Deed q) = deed_same passing refl 0 steps p.list q order.kinds in
-        let is : o.directory ≡ d = same_from_deed_word o.directory d o.of_profile.kind of.kind
-        (sym (offered_deed f p.list o.directory q o.of_profile before.legal o.offered) ∙ (sym word ∙ offered_deed f p'.list d q of after.legal bit)) in
-        subst (λ (e : Directory). is_open v e q ≡ true) is (was_open q o.directory o.of_profile o.offered)
-  ])
 
   -- ---- records
   lines : p'.records ≡ reverse v.records
@@ -296,13 +261,27 @@ module _ (f : Profile) (p : Progress) (w : World) (epoch : ℕ) (found : List (�
       ap (λ (rs : List Record). rs ++ (line epoch ∷ map (λ (x : ℕ × Outcome). record_of 0 epoch x.0 x.1) found)) same.records
       ∙ (ap (λ (e : ℕ). reverse w.records ++ (line e ∷ map (λ (x : ℕ × Outcome). record_of 0 e x.0 x.1) found)) now
       ∙ (ap (λ (rs : List Record). reverse w.records ++ (line w.epoch ∷ rs)) are
-      ∙ (sym (turned_records w.records shown (line w.epoch)) ∙ ap reverse (sym come.records))))
+      ∙ (sym (cc (
+        reverse-append (reverse shown) ((line w.epoch) ∷ w.records),
+        reverse-reverse shown,
+        reverse_onto w.records (line w.epoch) [],
+        append_assoc (reverse w.records) ((line w.epoch) ∷ []) shown,
+      )) ∙ ap reverse (sym come.records))))
 
   pass_to : IsSame f p' v
   pass_to =
       let hinted = λ (q : ℕ). same_truth (is_hinted v q) (empty_bit p'.list q) (to_bit q) (from_bit q) in
       let offered = λ (q : ℕ) (d : Directory) (of : IsDirectoryOf f d).
-      same_truth (is_offered v d q) (eligible_bit p'.list (number_of d) q) (offered_bit f p' v valid after has q d of) (from_offer q d of) in
+      same_truth (is_offered v d q) (eligible_bit p'.list (number_of d) q) (offered_bit f p' v valid after has q d of)
+      (λ bit. bit_offered f p' v valid after has q d of bit (elim (offered_by 0 steps p.list (number_of d) q bit) [
+        | inl old ↦ was_open q d of old
+        | inr offer ↦
+            let o : WasOffered f p.list q = past.offers q (subst (OffersPage q) order.steps_are offer) in
+            let word : word_after p'.list (Word.Deed q) ≡ word_after p.list (Word.Deed q) = deed_same passing refl 0 steps p.list q order.kinds in
+            let is : o.directory ≡ d = same_from_deed_word o.directory d o.of_profile.kind of.kind
+            (sym (offered_deed f p.list o.directory q o.of_profile before.legal o.offered) ∙ (sym word ∙ offered_deed f p'.list d q of after.legal bit)) in
+            subst (λ (e : Directory). is_open v e q ≡ true) is (was_open q o.directory o.of_profile o.offered)
+      ])) in
       let epoch = come.left.epoch ∙ (same.epoch ∙ sym (epoch_stays_by passing refl 0 steps p.list order.kinds)) in
       assumption (has, hinted, offered, lines, epoch, come.left.names ∙ same.names, come.left.read ∙ same.read)
 

@@ -1,11 +1,11 @@
 -- THE PAGES OF A PASS in order: it tries just the pages that were hinted when it began, upwards.
 use Rattle.std.proofs.Common.{◌≡◌, ℕ, zero, suc, ◌+◌, ◌*◌, ◌/◌, ◌%◌, ◌<◌, ◌≤◌, Bool, true, false, if◌then◌else◌, List, [], ◌∷◌, ◌++◌, map, reverse}
 use Rattle.std.proofs.Common.{append_assoc, append-nil, Option, None, Some, inl, inr, refl, ap, sym, ◌∙◌, subst, arith, true≢false, ne_eqb, eq-eqb}
-use Rattle.pas_same_text.proofs.Common.{cases_Bool, cases_eq, reverse_onto, filter-append, filter, has_bit, IsValid, vector_words, Directory, Outcome, Profile}
-use Rattle.pas_same_text.proofs.Common.{Word, made, triples, InTurn, Whole, word_after, Legal, Made, Look, Offer, triples_append, IsEmptyBacked, empty_bit}
-use Rattle.pas_same_text.proofs.Common.{legal_earlier, TrySteps, outcomes_in, all_tried, numbers_from, Progress, World, outcome_of, IsSame, IsBetween}
-use Rattle.pas_same_text.proofs.{Common.AreEndsStamped, StepMarks.{OffersPage, once_parts}, PassTries.tried, PassOutcomes.{WasOffered, pair, stays_hinted}}
-use Rattle.pas_same_text.proofs.PassOutcomes.{is_on, Spares, words_stay, spare_both, try_spares}
+use Rattle.pas_same_text.proofs.Common.{cases_Bool, cases_eq, reverse_onto, filter-append, filter, has_bit, IsValid, Directory, Outcome, Profile, Word, made}
+use Rattle.pas_same_text.proofs.Common.{triples, InTurn, Whole, Legal, Made, Look, Offer, triples_append, IsEmptyBacked, empty_bit, legal_earlier, TrySteps}
+use Rattle.pas_same_text.proofs.Common.{outcomes_in, all_tried, numbers_from, Progress, World, outcome_of, IsSame, IsBetween, AreEndsStamped}
+use Rattle.pas_same_text.proofs.{StepMarks.{OffersPage, once_parts}, PassTries.tried, PassOutcomes.{WasOffered, pair, stays_hinted, is_on, Spares, words_stay}}
+use Rattle.pas_same_text.proofs.PassOutcomes.{spare_both, try_spares}
 use Rattle.pas_steps.specs.InTurn.{numbers_below}
 use Rattle.pas_scavenger.{specs.Passes.{Tried, TriedSteps, with_outcome, WordRead, pages_set, WordSteps}, proofs.Examinations.outcomes_append}
 
@@ -137,15 +137,6 @@ module _ (f : Profile) (p : Progress) (w : World) (valid : IsValid f) (between :
       → IsPast f w p.list n (made (Look (Word.Empty word)) value ∷ steps) found
   past_look n word value steps found h = search arith
 
-  -- a word that is read has the hints with which the pass began, of pages that were spared so far
-  value_bit : (n value b : ℕ) (steps : List Made) → b < 64 → value ≡ word_after (triples 0 steps ++ p.list) (Word.Empty n) → Spares (64 * n + b) steps
-      → has_bit value b ≡ hinted (64 * n + b)
-  value_bit n value b steps lt is spares =
-      let w' : Whole = triples 0 steps ++ p.list in
-      let word : (64 * n + b) / 64 ≡ n = omega (arith, lt) in
-      let place : (64 * n + b) % 64 ≡ b = omega (arith, lt) in
-      cc ((words_stay (64 * n + b) 0 steps p.list spares).hint)
-
   -- ==== the pages of one word, below its n-th bit
   past_tries : (word value n : ℕ) (tries : List Tried) (steps base : List Made) (found : List (ℕ × Outcome)) → map (λ t. t.page) tries ≡ pages_set word value n
       → InTurn (TriedSteps f.age epoch) tries steps → Legal f (triples 0 (steps ++ base) ++ p.list)
@@ -184,7 +175,7 @@ module _ (f : Profile) (p : Progress) (w : World) (valid : IsValid f) (between :
   ]
 
   -- ==== the words below the n-th
-  past_words : (n : ℕ) (words : List WordRead) (steps base : List Made) → map (λ r. r.number) words ≡ numbers_below n
+  pub past_words : (n : ℕ) (words : List WordRead) (steps base : List Made) → map (λ r. r.number) words ≡ numbers_below n
       → InTurn (WordSteps f.age epoch) words steps → Legal f (triples 0 (steps ++ base) ++ p.list) → IsPast f w p.list 0 base []
       → IsPast f w p.list (64 * n) (steps ++ base) (outcomes_in (all_tried words))
   past_words zero [] steps base numbers order legal h = past_by f w p.list 0 base (steps ++ base) [] [] (ap (λ (ms : List Made). ms ++ base) (sym order)) refl h
@@ -202,15 +193,12 @@ module _ (f : Profile) (p : Progress) (w : World) (valid : IsValid f) (between :
       let whole : Legal f (triples 0 (read.after ++ (look ∷ rest)) ++ p.list) = subst (λ (ms : List Made). Legal f (triples 0 ms ++ p.list)) cut legal in
       let begun : Legal f (triples 0 (look ∷ rest) ++ p.list) = legal_earlier f 0 read.after (look ∷ rest) p.list whole in
       let before : IsPast f w p.list (64 * n) rest pairs = past_words n words order.1 base (cc numbers) order.3 begun.1 h in
-      let bits : ((b : ℕ) → b < 64 → has_bit r.value b ≡ hinted (64 * n + b)) = λ b lt. value_bit n r.value b rest lt begun.0.answer_is (before.spared (64 * n + b) (omega arith)) in
+      let bits : ((b : ℕ) → b < 64 → has_bit r.value b ≡ hinted (64 * n + b)) = λ b lt. (let w' : Whole = triples 0 rest ++ p.list in
+      let word : (64 * n + b) / 64 ≡ n = omega (arith, lt) in
+      let place : (64 * n + b) % 64 ≡ b = omega (arith, lt) in
+      cc ((words_stay (64 * n + b) 0 rest p.list (before.spared (64 * n + b) (omega arith))).hint)) in
       let pages : map (λ t. t.page) r.tried ≡ pages_set n r.value 64 = read.pages_are ∙ ap (λ (x : ℕ). pages_set x r.value 64) here in
       let done : IsPast f w p.list (64 * n + 64) (read.after ++ (look ∷ rest)) (outcomes_in r.tried ++ pairs) =
       past_tries n r.value 64 r.tried read.after (look ∷ rest) pairs pages read.tries whole bits (past_look (64 * n) n r.value rest pairs before) in
       past_at f w p.list (64 * n + 64) (64 * suc n) (steps ++ base) (outcomes_in (all_tried (r ∷ words))) (omega arith)
       (past_by f w p.list (64 * n + 64) (read.after ++ (look ∷ rest)) (steps ++ base) _ _ (sym cut) (sym (outcomes_append r.tried (all_tried words))) done)
-
-  -- THE WHOLE PASS
-  pub past_all : (words : List WordRead) (read : List Made) → map (λ r. r.number) words ≡ numbers_below (vector_words f.pages)
-      → InTurn (WordSteps f.age epoch) words read → Legal f (triples 0 (read ++ (made (Look Word.Epoch) epoch ∷ [])) ++ p.list)
-      → IsPast f w p.list (64 * vector_words f.pages) (read ++ (made (Look Word.Epoch) epoch ∷ [])) (outcomes_in (all_tried words))
-  past_all words read numbers order legal = past_words (vector_words f.pages) words read (made (Look Word.Epoch) epoch ∷ []) numbers order legal (search arith)

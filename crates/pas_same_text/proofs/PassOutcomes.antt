@@ -3,19 +3,19 @@
 use Rattle.pas_same_text.proofs.{StepMarks.kept_over, GivenBack.{each_at, each_all}, SearchedPages.{find_first, find_none}, FreeGrains.nobody_keeps}
 use Rattle.pas_same_text.proofs.{SeatedActs.stamps_told, Common.{false≢true, cases_eq, false_from_ne_true, has_bit, Mask4, page_bit-set, page_bit-clear}}
 use Rattle.pas_same_text.proofs.Common.{full_bit, grain_of, number_of, deed_word_of, IsDirectoryOf, IsValid, IsPage, Directory, Outcome, Word, Profile, Event}
-use Rattle.pas_same_text.proofs.Common.{made, triples, IsReturn, OnlyReturns, Always, all_ones, Whole, word_after, Legal, kind_of, is_in, looking, Only}
-use Rattle.pas_same_text.proofs.Common.{LookFree, Kinds, apart, LookDeed, Taking, Putting, Stamping, Made, Step, Look, Deed, Back, Take, Put, Give, End}
-use Rattle.pas_same_text.proofs.Common.{EndSized, TakeRight, Offer, Park, Unpark, Stamp, Hint, Tick, Unback, Unhint, only_both, only_within, always_both}
-use Rattle.pas_same_text.proofs.Common.{always_map, empty_bit, eligible_bit, IsUsableFree, looked, backed_of, offered_at_rest, right_in_one_place, looks_until}
-use Rattle.pas_same_text.proofs.Common.{looks, word_take, takes, ones, Used, until_only, leave_returns, return_returns, looks_only, used_at, TrySteps}
-use Rattle.pas_same_text.proofs.Common.{takes_until, first_looks, EndsWithout, ExamineSteps, taken_on, looks_same, Progress, World, HasSame, IsBetween, IsSame}
-use Rattle.pas_same_text.proofs.Common.{AreEndsStamped, is_free, are_free, is_guarded, is_kept, outcome_backed, outcome_of, deed_word_of-positive}
-use Rattle.pas_same_text.proofs.Common.{read-deed_word_of, directory_from_profile, same_from_deed_word, backed_in, epoch_in, word_of_backed, IsEmptyBacked}
-use Rattle.pas_same_text.{proofs.RestingPages.{free_at, backed_unguarded, clear_of, bit_tells}, specs.Passes.{used_word, free_bits}}
-use Rattle.std.proofs.Common.{arith, ◌≡◌, ℕ, ◌/◌, ◌%◌, ◌==◌, bit_and, bit_or, Bool, true, false, if◌then◌else◌, List, [], ◌∷◌, ◌++◌, Option, None, Some}
-use Rattle.std.proofs.Common.{slice_index, inl, inr, refl, ap, sym, ◌∙◌, subst, w64, ◌≢◌, zero, suc, ◌<◌, ◌≤◌, true≢false, ne_eqb, ◌+◌, ◌-◌, ◌*◌, ◌^◌, not}
-use Rattle.std.{proofs.{Common.{nat_lt, eq-eqb, lt-ltb, le-ltb}, lemmas.Nat.{mod-pow-add, Bits.bit_at-lt}}, specs.Int.bit_at}
-use Rattle.pas_steps.{specs.Kinds.{LookBacked, Claiming}, proofs.Bits.all_set}
+use Rattle.pas_same_text.proofs.Common.{made, triples, IsReturn, OnlyReturns, Always, all_ones, Whole, word_after, Legal, looking, Only, LookFree, Kinds, apart}
+use Rattle.pas_same_text.proofs.Common.{LookDeed, Taking, Putting, Stamping, Made, Step, Deed, Back, Take, Give, End, EndSized, TakeRight, Offer, Park, Unpark}
+use Rattle.pas_same_text.proofs.Common.{Stamp, Hint, Unback, Unhint, only_both, only_within, always_both, always_map, empty_bit, eligible_bit, IsUsableFree}
+use Rattle.pas_same_text.proofs.Common.{looked, backed_of, offered_at_rest, right_in_one_place, looks_until, looks, word_take, takes, ones, Used, until_only}
+use Rattle.pas_same_text.proofs.Common.{leave_returns, return_returns, looks_only, used_at, TrySteps, takes_until, first_looks, EndsWithout, ExamineSteps}
+use Rattle.pas_same_text.proofs.Common.{taken_on, looks_same, Progress, World, HasSame, IsBetween, IsSame, AreEndsStamped, is_free, are_free, is_guarded}
+use Rattle.pas_same_text.proofs.Common.{is_kept, outcome_backed, outcome_of, deed_word_of-positive, read-deed_word_of, directory_from_profile}
+use Rattle.pas_same_text.proofs.{Common.{same_from_deed_word, backed_in, epoch_in, word_of_backed, IsEmptyBacked}, RestingPages.{free_at, backed_unguarded}}
+use Rattle.pas_same_text.{proofs.RestingPages.{clear_of, bit_tells}, specs.Passes.{used_word, free_bits}}
+use Rattle.pas_steps.{specs.{declared.step.Step.TheVariants.Put, Kinds.{LookBacked, Claiming}}, proofs.Bits.all_set}
+use Rattle.std.proofs.Common.{arith, ◌≡◌, ℕ, ◌/◌, ◌%◌, ◌==◌, bit_and, Bool, true, false, if◌then◌else◌, List, [], ◌∷◌, ◌++◌, Option, None, Some, slice_index}
+use Rattle.std.proofs.Common.{inl, inr, refl, ap, sym, ◌∙◌, subst, w64, ◌≢◌, zero, suc, ◌<◌, ◌≤◌, true≢false, ne_eqb, ◌+◌, ◌-◌, ◌*◌, ◌^◌, not, nat_lt, eq-eqb}
+use Rattle.std.{proofs.{Common.{lt-ltb, le-ltb}, lemmas.Nat.mod-pow-add}, specs.Int.bit_at}
 use Rattle.pas_core.proofs.Lives.{words_fit}
 use Rattle.pas_rights.{specs.{Looks.AreUsed, Puts.PutsBelow}, proofs.Orders.each_always}
 use Rattle.pas_scavenger.specs.{Puttings.BackSteps, Pages.AsksSteps}
@@ -78,12 +78,8 @@ words_stay page k (m ∷ xs) l spares =
 pub spare_both : (page : ℕ) (ys xs : List Made) → Spares page ys → Spares page xs → Spares page (ys ++ xs)
 spare_both page ys xs first rest = always_both _ (λ m before. is_on page m.step ≡ false) ys xs (λ m before h. h) first rest
 
--- looks are on no page
-look_spares : (page : ℕ) (s : Step) → is_in looking (kind_of s) ≡ true → is_on page s ≡ false
-look_spares page s is = search (arith, false≢true)
-
 looks_spare : (page : ℕ) (xs : List Made) → Only looking xs → Spares page xs
-looks_spare page xs = always_map _ (λ m before. is_on page m.step ≡ false) xs (λ m before is. look_spares page m.step is)
+looks_spare page xs = always_map _ (λ m before. is_on page m.step ≡ false) xs (λ m before is. search (arith, false≢true))
 
 -- the first steps of an examination are looks
 pub first_only : (page b : ℕ) (used : Option Used) → Only looking (first_looks page b used)
@@ -193,10 +189,6 @@ none_used f k l page used xs are full legal = search (arith, lower_takes)
 
 -- ==== FREE WORDS OF A PAGE in the text, whenever all actors are at rest: the lowest word with a grain that isn't free, and the free grains of a word as a number, are those of the replay.
 -- ---- a number by its lowest bits
--- a bit is 0 or 1
-bit_worth : (x m : ℕ) → x < 2 → (if x == 1 then m else 0) ≡ x * m
-bit_worth a m lt = search arith
-
 -- the free grains of a word are the bits of this number
 bits_worth : (w : World) (page word value : ℕ) → ((b : ℕ) → b < 64 → is_free w page (64 * word + b) ≡ has_bit value b) → (n : ℕ) → n ≤ 64
     → free_bits w page word n ≡ value % 2 ^ n
@@ -205,7 +197,8 @@ bits_worth w page word value agree zero le = omega arith
 bits_worth w page word value agree (suc n) le =
     let before : free_bits w page word n ≡ value % 2 ^ n = bits_worth w page word value agree n (omega (arith, le)) in
     let here : (if is_free w page (64 * word + n) then 2 ^ n else 0) ≡ bit_at value n * 2 ^ n =
-    ap (λ (t : Bool). if t then 2 ^ n else 0) (agree n (omega (arith, le))) ∙ bit_worth (bit_at value n) (2 ^ n) (bit_at-lt value n) in
+    ap (λ (t : Bool). if t then 2 ^ n else 0) (agree n (omega (arith, le)))
+    ∙ (let it : (if (bit_at value n) == 1 then (2 ^ n) else 0) ≡ (bit_at value n) * (2 ^ n) = search arith in it) in
     let next : suc n ≡ 1 + n = omega arith in
     ap (λ (x : ℕ). x + (if is_free w page (64 * word + n) then 2 ^ n else 0)) before
     ∙ (ap (λ (x : ℕ). value % 2 ^ n + x) here
@@ -233,10 +226,6 @@ module _ (f : Profile) (p : Progress) (w : World) (valid : IsValid f) (between :
   used_free page word none few used = false_from_ne_true (are_free w page (64 * word) 64) (λ all.
       used (all_set (free_word page word) (words_fit f p.list valid between.legal (Word.Free page word))
       (λ b small. sym (bit_is page word b none few small) ∙ each_at 64 (64 * word) (64 * word + b) (is_free w page) all (omega arith) (omega (arith, small)))))
-
-  -- THE LOWEST WORD with a grain that isn't free
-  used_none : (page : ℕ) → is_guarded w page ≡ false → ((word : ℕ) → word < 4 → free_word page word ≡ all_ones) → used_word w page ≡ None
-  used_none page none full = find_none (λ word. not (are_free w page (64 * word) 64)) 4 0 (λ word low high. cc (full_free page word none high (full word high)))
 
   -- The first free word that isn't all ones is the used word that the text finds.
   used_first : (page word : ℕ) → is_guarded w page ≡ false → word < 4 → ((v : ℕ) → v < word → free_word page v ≡ all_ones) → free_word page word ≢ all_ones
@@ -332,7 +321,8 @@ module _ (f : Profile) (p : Progress) (w : World) (valid : IsValid f) (between :
       → outcome_of f w page
       ≡ (if kept then Outcome.NotOffered else (if nat_lt w.epoch (epoch_in w.events page + f.age) then Outcome.Young (epoch_in w.events page) else Outcome.Unbacked))
   empty_outcome page kept some full is =
-      cc (backed_outcome page None some (used_none f p w valid between has_same page (unguarded page some) full))
+      cc (backed_outcome page None some (find_none (λ word. not (are_free w page (64 * word) 64)) 4 0
+      (λ word low high. cc (full_free f p w valid between has_same page word (unguarded page some) high (full word high)))))
 
   -- A page that is backed and empty, and not offered by its directory, has the outcome not offered in the text.
   pub kept_outcome : (page : ℕ) (d : Directory) → IsBacked page → IsDirectoryOf f d → word_after p.list (Word.Deed page) ≡ deed_word_of d → IsFull page

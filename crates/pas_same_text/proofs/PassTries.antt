@@ -104,9 +104,6 @@ module _ (f : Profile) (p : Progress) (w : World) (valid : IsValid f) (between :
       on_offer : eligible_bit p.list (number_of d) page ≡ true
       on_offer = sym (kept.offer (number_of d)) ∙ asked.offered
 
-      was_offered : WasOffered f p.list page
-      was_offered = record { directory = d; of_profile = asked.of_profile; offered = on_offer }
-
       -- after the page lost its memory it isn't hinted
       unbacked_hint : (b stamp u : ℕ) → after ≡ made (Unback page) u ∷ made (Look (Word.Stamp page)) stamp ∷ made (Look (Word.Backed page)) b ∷ []
           → HintsPage page (back ++ (after ++ rest)) → ⊥
@@ -133,7 +130,7 @@ module _ (f : Profile) (p : Progress) (w : World) (valid : IsValid f) (between :
             is = young_outcome f p w valid between same stamped page d of some_backed all_full asked.of_profile on_offer (omega (arith, h.3, now, read)) ∙ ap (λ (n : ℕ). Outcome.Young n) (sym read);
             idle = λ stays. empty_backed f p w valid between same stamped page some_backed all_full;
             hints = λ gone. absurd (true≢false gone);
-            offers = λ offer. was_offered;
+            offers = λ offer. record { directory = d; of_profile = asked.of_profile; offered = on_offer };
           }
       judged Outcome.Unbacked h =
           let look = subst (λ (ms : List Made). Legal f (triples 0 (ms ++ rest) ++ before)) h.6 middle in
@@ -142,7 +139,7 @@ module _ (f : Profile) (p : Progress) (w : World) (valid : IsValid f) (between :
             is = old_outcome f p w valid between same stamped page d of some_backed all_full asked.of_profile on_offer (omega (arith, h.5, now, read));
             idle = λ stays. absurd (false≢true stays);
             hints = λ gone hint. unbacked_hint h.0 h.1 h.2 h.6 hint;
-            offers = λ offer. was_offered;
+            offers = λ offer. record { directory = d; of_profile = asked.of_profile; offered = on_offer };
           }
       judged Outcome.NotOffered h = absurd h
 
@@ -174,11 +171,6 @@ pub record IsTried (f : Profile) (w : World) (l before : Whole) (page : ℕ) (o 
   pub bit : stays_hinted (outcome_of f w page) ≡ false → empty_bit (triples 0 steps ++ before) page ≡ false
   pub offers : OffersPage page steps → WasOffered f l page
 
--- the bit is clear after the unhint
-cleared : (page a : ℕ) (before : Whole) → empty_bit (triple 0 (made (Unhint page) a) ∷ before) page ≡ false
-cleared page a before =
-    page_bit-clear page page _ true ∙ ap (λ (t : Bool). if t then false else empty_bit before page) (eq-eqb page page refl)
-
 module _ (f : Profile) (p : Progress) (w : World) (valid : IsValid f) (between : IsBetween f p) (same : IsSame f p w) (stamped : AreEndsStamped p.list)
     (page epoch : ℕ) (now : epoch ≡ w.epoch) (hinted : empty_bit p.list page ≡ true)
     (before : Whole) (spared : IsSpared page p.list before) where
@@ -202,7 +194,8 @@ module _ (f : Profile) (p : Progress) (w : World) (valid : IsValid f) (between :
             ap (λ (ms : List Made). empty_bit (triples 0 ms ++ before) page) h.4
             ∙ (ap (λ (m : Whole). empty_bit m page) (sym onto)
             ∙ false_from_ne_true (empty_bit (triples 0 h.2 ++ start) page) (λ set. elim (hinted_by 0 h.2 start page set) [
-              | inl old ↦ true≢false (sym old ∙ cleared page h.0 before)
+              | inl old ↦ true≢false (sym old ∙ page_bit-clear page page _ true
+                  ∙ ap (λ (t : Bool). if t then false else empty_bit before page) (eq-eqb page page refl))
               | inr hint ↦ x.hints (told ∙ gone) hint
             ]));
         offers = λ offer. elim (once_parts (λ m. (d : Directory) × (m.step ≡ Offer page d)) h.2 (un ∷ []) (subst (OffersPage page) h.4 offer)) [

@@ -1,21 +1,23 @@
 -- WHAT A PIECE OF STEPS LEFT, page by page, and what it used, from one state where all actors are at rest to another: what is free, open or without a guard on
 -- other pages is so still.
-use Rattle.std.proofs.Common.{ℕ, zero, suc, List, [], ◌∷◌, inl, inr, sym, subst, arith, ◌≡◌, ◌/◌, ◌%◌, true, ◌++◌, ap, ◌∙◌, ◌+◌, ◌*◌, ◌<◌, Bool, refl}
-use Rattle.std.proofs.Common.{append_assoc, false, Some, ◌⊎◌, true≢false, ◌==◌}
-use Rattle.pas_rights.proofs.Puts.{due_both}
-use Rattle.pas_same_text.proofs.StepMarks.{IsMarked, marked_parts, returns_marked, HintsPage, once_parts, none_marked, marked_left, hint_marks, offer_marks}
-use Rattle.pas_same_text.proofs.StepMarks.{offered_by, hints_of, hint_read, free_read, OffersPage, hinted_stays, hinted_by, KeepsBacked, hint_was, own_bit}
+use Rattle.pas_same_text.proofs.Common.{deed_word_numbered, word_of_deed, deed_of, number_told, offered_has_deed, AllByRecursion, list_any, Directory, Word}
+use Rattle.pas_same_text.proofs.Common.{Profile, InTurn, Always, Once, triples, has_right, holds, Made, Hint, Offer, LeaveSteps, GivesDuly, leave_due}
+use Rattle.pas_same_text.proofs.Common.{leave_returns, IsInRun, MakesNoDeedHere, pages_from, all_map, same_from_deed_word, has_bit, IsValid, IsDirectoryOf}
+use Rattle.pas_same_text.proofs.Common.{number_of, deed_word_of, IsKind, Whole, word_after, Legal, part, Event, visible, Kinds, Only, apart, Taking, Giving}
+use Rattle.pas_same_text.proofs.Common.{LookLife, Backing, returning, Progress, World, is_offered, is_guarded, is_hinted, HasSame, IsSame, ArePagesSame}
+use Rattle.pas_same_text.proofs.Common.{IsBetween, free_bit, false≢true, false_from_ne_true, cases_Bool, triples_append, only_both, only_within, once_later}
+use Rattle.pas_same_text.proofs.Common.{same_truth, eligible_bit, empty_bit, IsPartOf, legal_before, LendsNone, legal_earlier, right_not_offered}
+use Rattle.pas_same_text.proofs.Common.{right_in_one_place, hinted_at_rest, only_leaves, Live, live_in, deed_in, any_covers, allocating, is_outer, IsReturnOf}
+use Rattle.pas_same_text.proofs.{Common.ReturnsDuly, StepMarks.{IsMarked, marked_parts, returns_marked, HintsPage, once_parts, none_marked, hint_marks}}
+use Rattle.pas_same_text.proofs.StepMarks.{offer_marks, offered_by, hints_of, hint_read, free_read, OffersPage, hinted_stays, hinted_by, KeepsBacked, hint_was}
 use Rattle.pas_same_text.proofs.{StopSteps.{ReadsRoom, leave_room, room_earlier, room_later, grain_read}, RestingPages.{open_from, free_left, open_grows}}
 use Rattle.pas_same_text.proofs.RestingPages.{bit_at, is_open, bit_tells, bit_offered, deed_now, word_now, open_unguarded, had_open, clear_of, offered_bit}
 use Rattle.pas_same_text.proofs.FreeGrains.{not_outer, unguarded_by, bit_free, cached_held, free_uncovered, free_unheld, free_unless, held_by, holder_thread}
-use Rattle.pas_same_text.proofs.{FreeGrains.outer_held, Tests.on_page, Common.{AllByRecursion, list_any, Directory, Word, Profile, InTurn, Always, Once}}
-use Rattle.pas_same_text.proofs.Common.{triples, has_right, holds, GetsHere, Made, Hint, Offer, LeaveSteps, GivesDuly, leave_due, leave_returns, IsInRun}
-use Rattle.pas_same_text.proofs.Common.{MakesNoDeedHere, pages_from, all_map, same_from_deed_word, has_bit, IsValid, IsDirectoryOf, number_of, deed_word_of}
-use Rattle.pas_same_text.proofs.Common.{IsKind, Whole, word_after, Legal, part, Event, visible, Kinds, Only, apart, Taking, Giving, LookLife, Backing}
-use Rattle.pas_same_text.proofs.Common.{returning, Progress, World, is_offered, is_guarded, is_hinted, HasSame, IsSame, ArePagesSame, IsBetween, free_bit}
-use Rattle.pas_same_text.proofs.Common.{false≢true, false_from_ne_true, cases_Bool, triples_append, only_both, only_within, once_later, same_truth}
-use Rattle.pas_same_text.proofs.Common.{eligible_bit, empty_bit, IsPartOf, legal_before, LendsNone, legal_earlier, right_not_offered, right_in_one_place}
-use Rattle.pas_same_text.proofs.Common.{hinted_at_rest, only_leaves, Live, live_in, deed_in, any_covers, allocating, is_outer, IsReturnOf, ReturnsDuly}
+use Rattle.pas_same_text.proofs.{FreeGrains.outer_held, Tests.on_page}
+use Rattle.pas_steps.specs.Evidence.{GetsHere}
+use Rattle.std.proofs.Common.{ℕ, zero, suc, List, [], ◌∷◌, inl, inr, sym, subst, arith, ◌≡◌, ◌/◌, ◌%◌, true, ◌++◌, ap, ◌∙◌, ◌+◌, ◌*◌, ◌<◌, Bool, refl}
+use Rattle.std.proofs.Common.{append_assoc, false, Some, ◌⊎◌, true≢false, ◌==◌}
+use Rattle.pas_rights.proofs.Puts.{due_both}
 use Rattle.pas_search.proofs.LoneSteps.{was_offered_before}
 
 -- each of the pages is left, the one that was left last first
@@ -122,7 +124,7 @@ module _ {f : Profile} {k : ℕ} {d : Directory} {q : Progress} {mid : Whole} {r
   mark_left : (x : ℕ) → IsMarked x rest → IsMarked x h.left
   mark_left x m = elim (marked_parts x h.late (h.left ++ h.gave) (subst (IsMarked x) h.rest_is m)) [
     | inl late ↦ absurd (none_marked (Giving ∷ LookLife ∷ []) refl x h.late h.late_kinds late)
-    | inr early ↦ marked_left giving refl x h.left h.gave h.gave_kinds early
+    | inr early ↦ (elim (marked_parts x h.left h.gave early) [ inl marked ↦ marked | inr later ↦ absurd (none_marked giving refl x h.gave h.gave_kinds later) ])
   ]
 
   -- A page that is marked is one of them.
@@ -166,10 +168,6 @@ pub record UsesOnly (p q : Progress) (used : ℕ → Bool) : Type 0 where
   pub outer : (j x : ℕ) → is_outer (q.books j) x ≡ true → (is_outer (p.books j) x ≡ true) ⊎ (used x ≡ true)
   pub live : (a : ℕ) (b : Live) → live_in (visible q.list) a ≡ Some b
       → (live_in (visible p.list) a ≡ Some b) ⊎ ((g : ℕ) → IsPartOf g a b → used (g / 256) ≡ true)
-
--- More pages are named than were used.
-pub uses_wider : {p q : Progress} {used more : ℕ → Bool} → ((x : ℕ) → used x ≡ true → more x ≡ true) → UsesOnly p q used → UsesOnly p q more
-uses_wider wider uses = search arith
 
 module _ {f : Profile} {p q : Progress} {used : ℕ → Bool} (valid : IsValid f) (before : IsBetween f p) (after : IsBetween f q) (uses : UsesOnly p q used) where
   -- A free grain of another page is free still.
@@ -258,36 +256,24 @@ module _ {f : Profile} {k : ℕ} {p q : Progress} {w v : World} {mine : ℕ → 
   legal_got : Legal f (triples k got ++ p.list)
   legal_got = legal_earlier f k after got p.list (subst (Legal f) s.list s.between.legal)
 
-  -- A page that isn't the piece's isn't marked.
-  unmarked : (x : ℕ) → mine x ≡ false → IsMarked x after → ⊥
-  unmarked x out h = false≢true (sym out ∙ s.marks x h)
-
   hints_are : (x : ℕ) → is_hinted v x ≡ is_hinted w x
   hints_are x = ap (λ (hs : List ℕ). list_any (λ y. y == x) hs) s.hinted
 
   to_hint : (x : ℕ) → is_hinted v x ≡ true → empty_bit q.list x ≡ true
   to_hint x h = cc (hinted_stays allocating refl k steps p.list x s.kinds (sym (s.same.pages.hinted x) ∙ (sym (hints_are x) ∙ h)))
 
-  new_hint : (x : ℕ) → HintsPage x steps → empty_bit p.list x ≡ true
-  new_hint x new = elim (cases_Bool (mine x)) [
-    | inl here ↦ s.own_hint x here new
-    | inr out ↦ elim (once_parts (λ m. m.step ≡ Hint x) after got new) [
-      | inl later ↦ absurd (unmarked x out (hint_marks x after later))
-      | inr early ↦ hinted_before k s.valid s.before s.same got legal_got s.lends s.returns x (s.unbacked x out) early
-    ]
-  ]
-
   from_hint : (x : ℕ) → empty_bit q.list x ≡ true → is_hinted v x ≡ true
-  from_hint x bit = hints_are x ∙ (s.same.pages.hinted x ∙ elim (hinted_by k _ _ x (ap (λ m. empty_bit m x) (sym s.list) ∙ bit)) [ inl old ↦ old | inr new ↦ new_hint x new ])
-
-  was_offered : (x n : ℕ) → mine x ≡ false → eligible_bit q.list n x ≡ true → (i : ℕ) × (eligible_bit p.list i x ≡ true)
-  was_offered x n out bit = elim (offered_by k steps p.list n x (ap (λ (m : Whole). eligible_bit m n x) (sym s.list) ∙ bit)) [
-    | inl old ↦ (n, old)
-    | inr new ↦ elim (once_parts (λ m. (e : Directory) × (m.step ≡ Offer x e)) after got new) [
-      | inl later ↦ absurd (unmarked x out (offer_marks x after later))
-      | inr early ↦ (was_offered_before f k p.list x got legal_got s.returns (s.bare x out)).0 (offers_got x got s.returns early)
-    ]
-  ]
+  from_hint x bit = hints_are x
+      ∙ (s.same.pages.hinted x ∙ elim (hinted_by k _ _ x (ap (λ m. empty_bit m x) (sym s.list) ∙ bit)) [
+        | inl old ↦ old
+        | inr new ↦ (elim (cases_Bool (mine x)) [
+          | inl here ↦ s.own_hint x here new
+          | inr out ↦ elim (once_parts (λ m. m.step ≡ Hint x) after got new) [
+            | inl later ↦ absurd (false≢true (sym out ∙ s.marks x (hint_marks x after later)))
+            | inr early ↦ hinted_before k s.valid s.before s.same got legal_got s.lends s.returns x (s.unbacked x out) early
+          ]
+        ])
+      ])
 
   -- another page is offered still: its deed is the same, it was offered, and its bit is set
   offered_still : (x : ℕ) (e : Directory) → mine x ≡ false → IsDirectoryOf f e → eligible_bit q.list (number_of e) x ≡ true → is_offered v e x ≡ true
@@ -296,8 +282,17 @@ module _ {f : Profile} {k : ℕ} {p q : Progress} {w v : World} {mine : ℕ → 
       let deed : deed_in (visible p.list) x ≡ Some e =
       ap (λ (es : List Event). deed_in es x) (sym s.same.pages.events)
       ∙ (sym (s.deeds x out) ∙ (ap (λ (es : List Event). deed_in es x) s.now.events ∙ deed_now f q v s.valid s.between s.now x e of told.0)) in
-      let o = was_offered x (number_of e) out bit in
-      let old : is_offered w e x ≡ true = s.same.pages.offered x e of ∙ own_bit f p.list e o.0 x s.before.legal of deed o.1 in
+      let o : (i : ℕ) × (eligible_bit p.list i x ≡ true) =
+      (elim (offered_by k steps p.list (number_of e) x (ap (λ (m : Whole). eligible_bit m (number_of e) x) (sym s.list) ∙ bit)) [
+        | inl old ↦ (number_of e, old)
+        | inr new ↦ elim (once_parts (λ m. (e' : Directory) × (m.step ≡ Offer x e')) after got new) [
+          | inl later ↦ absurd (false≢true (sym out ∙ s.marks x (offer_marks x after later)))
+          | inr early ↦ (was_offered_before f k p.list x got legal_got s.returns (s.bare x out)).0 (offers_got x got s.returns early)
+        ]
+      ]) in
+      let old : is_offered w e x ≡ true = s.same.pages.offered x e of ∙ (let word : deed_word_of e ≡ deed_word_numbered o.0 = sym (ap word_of_deed deed)
+      ∙ (sym (deed_of f p.list s.before.legal x) ∙ offered_has_deed f p.list s.before.legal o.0 x o.1) in
+      ap (λ (m : ℕ). eligible_bit p.list m x) (number_told e o.0 of.kind word) ∙ o.1) in
       bit_offered f q v s.valid s.between s.now x e of bit
       (open_kept s.valid s.before s.between s.uses (has_same s.same) s.now e x out (had_open w e x old))
 

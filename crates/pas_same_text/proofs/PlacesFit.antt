@@ -99,16 +99,14 @@ module _ (f : Profile) (p : Progress) (w : World) (valid : IsValid f) (between :
       (each_all n s (is_free w page)
       (λ b low high. read_unless f p w valid between same page b (omega (arith, high, within)) (fits_unguarded page s fits) ∙ fits.free b low high))
 
-  some_is : (page : ℕ) → some_of (lowest_place w n step page) ≡ list_any (test page) (spaced 0 step (256 / step))
-  some_is page = (grind arith) ∙ some_filtered (test page) (spaced 0 step (256 / step))
-
   -- A run for a bit-fit request fits on an unguarded page in the text exactly where it does by the replay's free grains.
   pub bitfit_fits : FitsSame (NoneFits (run_for room align)) f p w (lowest_place w n step)
   bitfit_fits = record {
     none = λ page of unguarded none. false_from_ne_true (some_of (lowest_place w n step page)) (λ h.
-        let o = from_spaced (test page) (256 / step) 0 step (sym (some_is page) ∙ h) in
+        let o = from_spaced (test page) (256 / step) 0 step (sym ((grind arith) ∙ some_filtered (test page) (spaced 0 step (256 / step))) ∙ h) in
         none (0 + o.0 * step) (test_fits page (0 + o.0 * step) unguarded (ap (λ (x : ℕ). x % step) (omega arith) ∙ mul-mod_left o.0 step) o.2));
-    some = λ page of unguarded fits. some_is page ∙ by_test page fits (list_any (test page) (spaced 0 step (256 / step))) refl;
+    some = λ page of unguarded fits. (grind arith) ∙ some_filtered (test page) (spaced 0 step (256 / step))
+        ∙ by_test page fits (list_any (test page) (spaced 0 step (256 / step))) refl;
   }
     where
       by_test : (page : ℕ) → (NoneFits (run_for room align) (free_of_page p.list page) → ⊥) → (t : Bool) → list_any (test page) (spaced 0 step (256 / step)) ≡ t

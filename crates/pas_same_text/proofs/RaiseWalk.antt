@@ -151,10 +151,6 @@ module _ (f : Profile) (keeper k name heap n : ℕ) (w : World) (made : List ℕ
       ≡ (if bare then raises keeper name heap p n (upto (p + (n + 2))) else raises_from f keeper k name heap n (numbers_from (p + 1) m) (upto (p + (n + 2))))
   tried_one e p m bare low high up usable is_bare = search (arith, shown_events, backed_beside, deeds_step)
 
-  passed_one : (e p m : ℕ) → is_run f w heap (n + 2) p ≡ false
-      → raises_from f keeper k name heap n (numbers_from p (suc m)) (upto e) ≡ raises_from f keeper k name heap n (numbers_from (p + 1) m) (upto e)
-  passed_one e p m none = ap (λ (t : Bool). after_one p (numbers_from (p + 1) m) t (are_bare (upto e) p n) (deeds_run keeper heap p (n + 2) (upto e)) (upto e)) (is.still e p ∙ none)
-
   -- a run that doesn't serve
   pass_by : (Result : World) (e p m : ℕ) → 1 ≤ p → p < end → IsUpTo e p → (is_run f w heap (n + 2) p ≡ true → are_bare w p n ≡ false)
       → ((e : ℕ) → IsUpTo e (p + 1) → raises_from f keeper k name heap n (numbers_from (p + 1) m) (upto e) ≡ Result)
@@ -164,7 +160,8 @@ module _ (f : Profile) (keeper k name heap n : ℕ) (w : World) (made : List ℕ
       at : (t : Bool) → is_run f w heap (n + 2) p ≡ t → raises_from f keeper k name heap n (numbers_from p (suc m)) (upto e) ≡ Result
       at true usable = tried_one e p m false low high up usable (backed usable)
           ∙ rest (p + (n + 2)) (record { past = λ r some lt h. omega (arith, lt); near = omega arith })
-      at false none = passed_one e p m none ∙ rest e (search (arith, true≢false))
+      at false none = ap (λ (t : Bool). after_one p (numbers_from (p + 1) m) t (are_bare (upto e) p n) (deeds_run keeper heap p (n + 2) (upto e)) (upto e))
+          (is.still e p ∙ none) ∙ rest e (search (arith, true≢false))
 
   -- all deeds are there
   whole : (e : ℕ) → AllByRecursion (λ q. q < e) made → upto e ≡ shown (deeds_of keeper d made) w

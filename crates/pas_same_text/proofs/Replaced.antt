@@ -1,23 +1,22 @@
 -- REALLOCATIONS THAT REPLACE A BLOCK: after a request that was served its thread is at rest with its cache again, by what the request's steps show; so the request for
 -- another block is an act of its own, and where it was served the old name is logged then.
-use Rattle.std.proofs.Common.{length, ◌≡◌, ℕ, ◌+◌, ◌≤◌, Bool, true, false, cond, List, [], ◌∷◌, ◌++◌, All, None, Some, Result, Ok, Err, ◌⊎◌, inl, inr, refl, ap}
-use Rattle.std.proofs.Common.{sym, ◌∙◌, subst, append_assoc, arith, map, reverse, Option, MatchResult, append-nil, eq-eqb}
-use Rattle.std.proofs.lemmas.List.Sorted.{IsPermutation-sym, IsPermutation-to_front}
+use Rattle.std.proofs.Common.{◌==◌, length, ◌≡◌, ℕ, ◌+◌, ◌≤◌, true, List, [], ◌∷◌, ◌++◌, All, None, Some, Result, Ok, Err, ◌⊎◌, inl, inr, refl, ap, sym, ◌∙◌}
+use Rattle.std.proofs.{Common.{subst, append_assoc, arith, map, reverse, Option, MatchResult, append-nil, eq-eqb}, lemmas.List.Sorted.IsPermutation-sym}
+use Rattle.std.proofs.lemmas.List.Sorted.{IsPermutation-to_front}
+use Rattle.pas_same_text.proofs.{CacheLists.{again_at, Still, serves_still, same_own}, MadePlace.up_to, BackActs.freed_any, SeatedActs.at_rest_now}
+use Rattle.pas_same_text.proofs.{SeatedActs.middle_rest, SmallActs.{after_with, page_inside, freed_is}, UsableBlocks.act_usable, FetchedClasses.HasPlace}
+use Rattle.pas_same_text.proofs.{FetchedClasses.{IsFetched, place_fetched}, Common.{filling_for, map-append, reverse-append, IsValid, IsAdmitted, route_in}}
+use Rattle.pas_same_text.proofs.Common.{is_shared, kind_of_route, class_home, directory_for, room_in, Directory, Route, NoRoom, Block, Profile, Event, Agreed}
+use Rattle.pas_same_text.proofs.Common.{triples, part, Legal, Whole, View, events_by, Made, triples_append, events_append, part_of_own, agreed_steps}
+use Rattle.pas_same_text.proofs.Common.{legal_earlier, IsServedNamed, IsScanned, MayFind, Slots, AtRest, Cached, TakesEntry, RestsWith, local_for, filling_in}
+use Rattle.pas_same_text.proofs.Common.{Fetches, IsObtained, ServesClass, ServesPages, ServesBy, IsAnswered as IsAnsweredBy, may_find, IsThread, Act, Request}
+use Rattle.pas_same_text.proofs.Common.{Alloc, Progress, Answer, wanted_by, Caches, Named, named, having, IsReplaced, records_of, said_by, with_steps}
+use Rattle.pas_same_text.proofs.Common.{after_answer, World, IsSame, IsBetween, IsResting, HasUsableBlocks, serves, IsAsked, AnswersSame, RequestStaysSame}
+use Rattle.pas_same_text.{proofs.Common.{entry_of, Entry, Record, Said as TheSaid, IsNamedBy, said_of_request, block_of}, specs.Order.{logs_replaced, replaces}}
 use Rattle.pas_steps.proofs.Adding.{agreed_first, agreed_later}
 use Rattle.pas_bitfit.specs.Allocates.{bitfit_directory, IsAllocated}
-use Rattle.pas_cache.{specs.Serves.{FindsCached, pages_of}, proofs.{Resting.{found_passes, rests_kept, rests_reordered, rests_given}, Routes.not_bitfit}}
-use Rattle.pas_cache.proofs.{Routes.bitfit_rests, Obtained.rests_refilled}
-use Rattle.pas_same_text.{specs.Order.{logs_replaced, replaces}, proofs.{CacheLists.{same_own, serves_many}, MadePlace.up_to, BackActs.freed_any}}
-use Rattle.pas_same_text.proofs.{SeatedActs.{cached_again, at_rest_now, middle_rest}, SmallActs.{after_with, page_inside, freed_is}, UsableBlocks.act_usable}
-use Rattle.pas_same_text.proofs.{FetchedClasses.{HasPlace, IsFetched, place_fetched}, Common.{filling_for, find, filter, count_by, sum_by-cons, map-append}}
-use Rattle.pas_same_text.proofs.Common.{reverse-append, IsValid, IsAdmitted, route_in, is_shared, kind_of_route, class_home, directory_for, room_in, Directory}
-use Rattle.pas_same_text.proofs.Common.{Route, NoRoom, Block, Profile, Event, Agreed, triples, part, Legal, Whole, View, events_by, Made, triples_append}
-use Rattle.pas_same_text.proofs.Common.{events_append, part_of_own, agreed_steps, legal_earlier, IsServedNamed, IsScanned, MayFind, Slots, AtRest, Cached}
-use Rattle.pas_same_text.proofs.Common.{TakesEntry, RestsWith, local_for, filling_in, Fetches, IsObtained, ServesClass, ServesBitfit, ServesPages, ServesBy}
-use Rattle.pas_same_text.proofs.Common.{IsAnswered as IsAnsweredBy, may_find, IsThread, Act, Request, Alloc, Progress, Answer, wanted_by, Caches, Named, named}
-use Rattle.pas_same_text.proofs.Common.{having, IsReplaced, records_of, said_by, with_steps, after_answer, World, IsSame, IsBetween, IsResting, HasUsableBlocks}
-use Rattle.pas_same_text.proofs.Common.{logs, frees, serves, IsAsked, AnswersSame, RequestStaysSame, entry_of, Entry, Record, Said as TheSaid, IsNamedBy}
-use Rattle.pas_same_text.proofs.Common.{said_of_request, block_of}
+use Rattle.pas_cache.{specs.Serves.pages_of, proofs.{Resting.{found_passes, rests_kept, rests_reordered, rests_given}, Routes.bitfit_rests}}
+use Rattle.pas_cache.proofs.Obtained.{rests_refilled}
 use Rattle.pas_free_log.specs.Conditions.{IsEntryOf}
 
 -- ---- a request
@@ -47,12 +46,6 @@ module _ (f : Profile) (k : ℕ) (r : Request) (p : Progress) (a : Answer) (w : 
     abbrev home : Directory
     home = class_home f r.heap class
 
-    cached_out : (slots : Slots) (fewer : List Slots) (early : List Made) → FindsCached r.heap class c.locals fewer slots early
-        → RestsWith f (slots ∷ fewer) (early ++ v)
-    cached_out slots fewer early finds =
-        subst (λ (ms : List Made). RestsWith f (slots ∷ fewer) (ms ++ v)) (sym finds.no_steps)
-        (rw finds.fewer_are (rests_reordered f c.locals _ ((found_passes _ c.locals slots finds.cached).without (rests.apart.one_each r.heap class)) v rests))
-
     -- After a fetch that got slots the actor is at rest.
     fetched : (slots : Slots) (fewer : List Slots) (early : List Made) → Legal f (triples k early ++ p.list)
         → Fetches (filling_in home class) f c.locals fewer early (Ok slots) → RestsWith f (slots ∷ fewer) (early ++ v)
@@ -73,7 +66,10 @@ module _ (f : Profile) (k : ℕ) (r : Request) (p : Progress) (a : Answer) (w : 
         → IsObtained (filling_in home class) f c.locals fewer early (Ok slots) → RestsWith f (slots ∷ fewer) (early ++ v)
     obtained slots fewer early stands (inl cached) =
         let some : Ok slots ≡ Ok cached.0 = cached.1 in
-        subst (λ (s : Slots). RestsWith f (s ∷ fewer) (early ++ v)) (sym cc) (cached_out cached.0 fewer early cached.2)
+        subst (λ (s : Slots). RestsWith f (s ∷ fewer) (early ++ v)) (sym cc)
+        (subst (λ (ms : List Made). RestsWith f (cached.0 ∷ fewer) (ms ++ v)) (sym cached.2.no_steps)
+        (rw cached.2.fewer_are (rests_reordered f c.locals _
+        ((found_passes _ c.locals cached.0 cached.2.cached).without (rests.apart.one_each r.heap class)) v rests)))
     obtained slots fewer early stands (inr fetch) = fetched slots fewer early stands fetch
 
     given_rests : (found : Result Slots NoRoom) (fewer locals' : List Slots) (given early : List Made) → a.steps ≡ given ++ early
@@ -98,14 +94,6 @@ module _ (f : Profile) (k : ℕ) (r : Request) (p : Progress) (a : Answer) (w : 
         given_rests own.locals.found own.locals.fewer a.cache.locals own.locals.given own.locals.before own.locals.steps_are own.locals.obtained own.locals.ends
 
   -- ---- of a bit-fit page
-  bitfit_kept : route_in f r.size r.align ≡ Route.Bitfit → ServesBitfit f (wanted_by f r) c a.cache a.steps (Ok block)
-      → RestsWith f a.cache.locals (a.steps ++ v)
-  bitfit_kept route by_bitfit =
-      let both : IsAllocated f (bitfit_directory r.heap) (wanted_by f r).room r.align by_bitfit.searched by_bitfit.after block =
-      subst (λ (e : Directory). IsAllocated f e (wanted_by f r).room r.align by_bitfit.searched by_bitfit.after block) (ap home_by route) by_bitfit.outcome in
-      rw (by_bitfit.cache, by_bitfit.steps_are) (bitfit_rests f r.heap (wanted_by f r).room r.align c.locals by_bitfit.searched by_bitfit.after (Ok block) both v rests
-      (subst (Agreed f v) by_bitfit.steps_are agreed))
-
   -- ---- of whole pages
   pages_rests : route_in f r.size r.align ≡ Route.Large → ServesPages f (wanted_by f r) a.found c a.cache a.steps (Ok block)
       → RestsWith f a.cache.locals (a.steps ++ v)
@@ -128,22 +116,14 @@ module _ (f : Profile) (k : ℕ) (r : Request) (p : Progress) (a : Answer) (w : 
   by_route : (route : Route) → route_in f r.size r.align ≡ route → ServesBy route f (wanted_by f r) a.found c a.cache a.steps (Ok block)
       → RestsWith f a.cache.locals (a.steps ++ v)
   by_route (Route.Class class) is serves = class_rests class is serves
-  by_route Route.Bitfit is serves = bitfit_kept is serves
+  by_route Route.Bitfit is serves = let both : IsAllocated f (bitfit_directory r.heap) (wanted_by f r).room r.align serves.searched serves.after block =
+      subst (λ (e : Directory). IsAllocated f e (wanted_by f r).room r.align serves.searched serves.after block) (ap home_by is) serves.outcome in
+      rw (serves.cache, serves.steps_are) (bitfit_rests f r.heap (wanted_by f r).room r.align c.locals serves.searched serves.after (Ok block) both v rests
+      (subst (Agreed f v) serves.steps_are agreed))
   by_route Route.Large is serves = pages_rests is serves
-
-  -- A request that was served leaves its thread at rest with the local allocators of the cache in its answer.
-  served_rests : ServesBy (route_in f r.size r.align) f (wanted_by f r) a.found c a.cache a.steps (Ok block) → RestsWith f a.cache.locals (a.steps ++ v)
-  served_rests serves = by_route (route_in f r.size r.align) refl serves
-
-  -- A request that was served leaves the log of its thread's cache as it was.
-  served_log : ServesBy (route_in f r.size r.align) f (wanted_by f r) a.found c a.cache a.steps (Ok block) → a.cache.log ≡ c.log
-  served_log serves = search arith
 
 -- ==== REALLOCATIONS THAT REPLACE A BLOCK: the request for another one as an act of its own, and where it was served the old name logged then.
 -- ---- records of steps that follow others
-records_both : (later earlier : List Event) → records_of (later ++ earlier) ≡ records_of earlier ++ records_of later
-records_both later earlier = ap (λ (es : List Event). map Record.Event es) (reverse-append later earlier) ∙ map-append Record.Event _ (reverse later)
-
 -- ---- what a name stands for that was asked for last
 -- ---- between the request and the log all actors are at rest
 module _ (f : Profile) (k : ℕ) (r : Request) (old : Block) (p : Progress) (a : Answer) (w : World)
@@ -169,9 +149,11 @@ module _ (f : Profile) (k : ℕ) (r : Request) (old : Block) (p : Progress) (a :
   own_rest (Err room) e none = search (arith, at_end)
   own_rest (Ok block) e takes =
       let serves_it = rw e at is.served.serves in
-      let log = served_log f k r p is.placed w block valid thread listed admitted before same is.served.rest legal serves_it in
+      -- A request that was served leaves the log of its thread's cache as it was.
+      let log : is.placed.cache.log ≡ (c f k r p is.placed w block valid thread listed admitted before same is.served.rest legal).log = search arith in
       record {
-        locals = rw part_of_own (served_rests f k r p is.placed w block valid thread listed admitted before same is.served.rest legal serves_it);
+        locals = rw part_of_own (by_route f k r p is.placed w block valid thread listed admitted before same is.served.rest legal
+            (route_in f r.size r.align) refl serves_it);
         few = subst (λ (ls : List Slots). length ls ≤ 32) (ap (λ (c : Cached). c.locals) takes.cache) at_end.few;
         entries = subst (All (IsEntryOf f)) (sym log) is.served.rest.entries;
         few_entries = subst (λ (es : List Entry). length es ≤ 64) (sym log) is.served.rest.few_entries;
@@ -198,14 +180,10 @@ module _ (f : Profile) (k : ℕ) (r : Request) (old : Block) (p : Progress) (a :
   text_as o names_are = search (arith, eq-eqb)
 
   -- ---- where it was refused nothing follows
-  -- the two answers are the same, part by part
-  unserved_to : a.steps ≡ is.placed.steps → a.cache ≡ is.placed.cache → after_answer p k a ≡ q
-  unserved_to steps cache = search arith
-
   -- A reallocation whose request is refused is the text's.
   unserved : is.placed.names ≡ named r.name None ∷ p.names → is.freed ≡ [] → a.cache ≡ is.placed.cache → IsSame f (after_answer p k a) to
   unserved names_are none cache =
-      rw (unserved_to (is.steps_are ∙ ap (λ (ms : List Made). ms ++ is.placed.steps) none) cache, text_as None names_are) at_request
+      let unserved_to : after_answer p k a ≡ q = search arith in rw (unserved_to, text_as None names_are) at_request
 
   -- ---- where it was served the old name is logged
   module _ (block : Block) (names_are : is.placed.names ≡ named r.name (Some block) ∷ p.names) (silent : is.placed.said ≡ None)
@@ -223,17 +201,16 @@ module _ (f : Profile) (k : ℕ) (r : Request) (old : Block) (p : Progress) (a :
     abbrev flushed : List Event
     flushed = events_by k (part k q.list) is.freed
 
-    list_is : triples k a.steps ++ p.list ≡ end.list
-    list_is = ap (λ (ms : List Made). triples k ms ++ p.list) is.steps_are ∙ sym (triples_append k is.freed is.placed.steps p.list)
-
-    events_are : events_by k own a.steps ≡ flushed ++ given
-    events_are = simp (is.steps_are, events_append, ← part_of_own)
-
     records_are : p.records ++ (records_of (events_by k own a.steps) ++ said_by k a.said) ≡ end.records
     records_are =
-        ap (λ (es : List Event). p.records ++ (records_of es ++ said_by k a.said)) events_are
+        ap (λ (es : List Event). p.records ++ (records_of es ++ said_by k a.said)) (let it : events_by k own a.steps ≡ flushed ++ given = simp (
+          is.steps_are,
+          events_append,
+          ← part_of_own,
+        ) in it)
         ∙ (ap (λ (s : Option TheSaid). p.records ++ (records_of (flushed ++ given) ++ said_by k s)) (is.said_is ∙ silent)
-        ∙ (ap (λ (rs : List Record). p.records ++ rs) (append-nil (records_of (flushed ++ given)) ∙ records_both flushed given)
+        ∙ (ap (λ (rs : List Record). p.records ++ rs) (append-nil (records_of (flushed ++ given))
+        ∙ ap (λ (es : List Event). map Record.Event es) (reverse-append flushed given) ∙ map-append Record.Event _ (reverse flushed))
         ∙ (sym (append_assoc p.records (records_of given) (records_of flushed))
         ∙ (ap (λ (rs : List Record). (p.records ++ rs) ++ records_of flushed) (sym (append-nil (records_of given)))
         ∙ (ap (λ (s : Option TheSaid). (p.records ++ (records_of given ++ said_by k s)) ++ records_of flushed) (sym silent)
@@ -241,36 +218,32 @@ module _ (f : Profile) (k : ℕ) (r : Request) (old : Block) (p : Progress) (a :
 
     end_is : after_answer p k a ≡ end
     end_is =
-        ap (λ (l : Whole). let x : Progress = record (after_answer p k a) { list = l } in x) list_is
+        ap (λ (l : Whole). let x : Progress = record (after_answer p k a) { list = l } in x)
+        (ap (λ (ms : List Made). triples k ms ++ p.list) is.steps_are ∙ sym (triples_append k is.freed is.placed.steps p.list))
         ∙ (ap (λ (rs : List Record). let x : Progress = record (after_answer p k a) { list = end.list; records = rs } in x) records_are
         ∙ (ap (λ (ns : List Named). let x : Progress = record (after_answer p k a) { names = ns; list = end.list; records = end.records } in x) is.names_are
-        ∙ ap (λ (cs : Caches). let x : Progress = record (after_answer p k a) { names = q.names; caches = cs; list = end.list; records = end.records } in x) (sym (cached_again p.caches k is.placed.cache a.cache))))
+        ∙ ap (λ (cs : Caches). let x : Progress = record (after_answer p k a) { names = q.names; caches = cs; list = end.list; records = end.records } in x)
+        (sym (λ i j. again_at p.caches j k is.placed.cache a.cache (j == k) i))))
 
     between_end : IsBetween f (with_steps q k is.freed a.cache)
     between_end = let b : IsBetween f end = subst (IsBetween f) end_is after in record { legal = b.legal; rest = b.rest }
 
-    -- each live block still lies on usable grains, as after the request as an act of its own
-    usable_then : HasUsableBlocks q
-    usable_then =
-        act_usable f (Act.Operates (record { line = 0; actor = k; what = Alloc r.name r.heap r.size r.align })) p q asked.valid asked.before asked.after (is.placed, asked.served, refl) usable
-
     listed_then : k ≤ length mid.caches
-    listed_then = omega (arith, asked.listed, serves_many f k r.name r.heap (route_in f r.size r.align) (room_in f r.size r.align) r.align w)
-
-    -- The free was logged.
-    logged : IsSame f end (frees f k (entry_of old.name) mid)
-    logged =
-        freed_any f k (entry_of old.name) q mid a.cache is.freed asked.thread listed_then asked.valid asked.after at_request usable_then between_end None
-        (inl (subst (λ (c : Cached). TakesEntry f k c a.cache (entry_of old.name) is.freed) (sym (same_own p.caches k is.placed.cache)) takes, refl))
-
-    text_logs : frees f k (entry_of old.name) mid ≡ logs f k (entry_of old.name) mid
-    text_logs =
-        freed_is f k (entry_of old.name) mid true true (page_inside f.pages _ takes.region.page.0 takes.region.page.1) (eq-eqb _ 0 takes.region.aligned)
+    listed_then = omega (
+      arith,
+      asked.listed,
+      ap (λ (s : Still). s.2) (serves_still f k r.name r.heap (route_in f r.size r.align) (room_in f r.size r.align) r.align w),
+    )
 
     served_to : IsSame f (after_answer p k a) to
     served_to =
         subst (λ (x : Progress). IsSame f x to) (sym end_is)
-        (subst (λ (x : World). IsSame f end x) (sym (text_as (Some block) names_are ∙ sym text_logs)) logged)
+        (subst (λ (x : World). IsSame f end x) (sym (text_as (Some block) names_are ∙ sym
+        (freed_is f k (entry_of old.name) mid true true (page_inside f.pages _ takes.region.page.0 takes.region.page.1) (eq-eqb _ 0 takes.region.aligned))))
+        (freed_any f k (entry_of old.name) q mid a.cache is.freed asked.thread listed_then asked.valid asked.after at_request
+        (act_usable f (Act.Operates (record { line = 0; actor = k; what = Alloc r.name r.heap r.size r.align })) p q asked.valid asked.before asked.after
+        (is.placed, asked.served, refl) usable) between_end None
+        (inl (subst (λ (c : Cached). TakesEntry f k c a.cache (entry_of old.name) is.freed) (sym (same_own p.caches k is.placed.cache)) takes, refl))))
 
   by_answer : (answer : Result Block NoRoom) → is.served.answer ≡ answer
       → MatchResult answer (λ block. TakesEntry f k is.placed.cache a.cache (entry_of old.name) is.freed) (λ room. (is.freed ≡ []) × (a.cache ≡ is.placed.cache))
@@ -278,9 +251,6 @@ module _ (f : Profile) (k : ℕ) (r : Request) (old : Block) (p : Progress) (a :
   by_answer (Ok block) e takes = served_to block (is.served.names_are ∙ ap (λ (x : Result Block NoRoom). named r.name (block_of x) ∷ p.names) e)
       (is.served.said_is ∙ ap (said_of_request r.name) e) takes
   by_answer (Err room) e none = unserved (is.served.names_are ∙ ap (λ (x : Result Block NoRoom). named r.name (block_of x) ∷ p.names) e) none.0 none.1
-
-  replaced_asked : IsSame f (after_answer p k a) to
-  replaced_asked = by_answer is.served.answer refl is.logged
 
 -- ---- THE ACT, by what is known of it, and what its request comes to
 pub replaced_same : (f : Profile) (k : ℕ) (r : Request) (old : Block) (p : Progress) (a : Answer) (w : World) → old.heap ≡ r.heap → IsValid f → IsThread f k
@@ -290,4 +260,4 @@ pub replaced_same : (f : Profile) (k : ℕ) (r : Request) (old : Block) (p : Pro
     → IsSame f (after_answer p k a) (replaces f k r.name old r.size r.align w)
 replaced_same f k r old p a w heap_is valid thread listed admitted before after same usable is named stays =
     let asked : IsAsked f k r p is.placed w = assumption (middle f k r old p a w is valid thread listed admitted before after same) in
-    replaced_asked f k r old p a w heap_is is asked usable (stays p is.placed w asked) after
+    by_answer f k r old p a w heap_is is asked usable (stays p is.placed w asked) after is.served.answer refl is.logged

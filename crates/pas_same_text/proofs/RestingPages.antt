@@ -74,10 +74,6 @@ is_opened w d page none room = and_from (not (is_guarded w page)) (has_room w d 
 pub open_unguarded : (w : World) (d : Directory) (page : ℕ) → is_open w d page ≡ true → is_guarded w page ≡ false
 open_unguarded w d page h = not-true (is_guarded w page) (and_first (not (is_guarded w page)) (has_room w d page) h)
 
--- A page that is open to a directory has room for its blocks.
-open_room : (w : World) (d : Directory) (page : ℕ) → is_open w d page ≡ true → has_room w d page ≡ true
-open_room w d page h = and_second (not (is_guarded w page)) (has_room w d page) h
-
 -- an offered page is so
 pub had_open : (w : World) (d : Directory) (page : ℕ) → is_offered w d page ≡ true → is_open w d page ≡ true
 had_open w d page h = and_second (not (is_kept w page)) (is_open w d page) (and_second (is_of w d page) (not (is_kept w page) && is_open w d page) h)
@@ -114,7 +110,7 @@ module _ (f : Profile) (p : Progress) (w : World) (valid : IsValid f) (between :
       let own : is_of w d page ≡ true = and_first (is_of w d page) (not (is_kept w page) && is_open w d page) h in
       let rest : (not (is_kept w page) && is_open w d page) ≡ true = and_second (is_of w d page) (not (is_kept w page) && is_open w d page) h in
       let open_page : is_open w d page ≡ true = had_open w d page h in
-      let room : has_room w d page ≡ true = open_room w d page open_page in
+      let room : has_room w d page ≡ true = and_second (not (is_guarded w page)) (has_room w d page) open_page in
       let o = some_fails 256 0 (λ b. not (usable_by_kind d.kind b && is_free w page b)) (not-true _ room) in
       let both = not-false (usable_by_kind d.kind o.number && is_free w page o.number) o.fails in
       let small : o.number < 256 = o.high in
@@ -155,21 +151,16 @@ room_from : (w : World) (d : Directory) (page b : ℕ) → b < 256 → usable_by
 room_from w d page b small usable free = ap not (false_from_ne_true (each_of 0 256 (λ x. not (usable_by_kind d.kind x && is_free w page x))) (λ all.
     false≢true (sym (ap not (and_from _ _ usable free)) ∙ each_at 256 0 b (λ x. not (usable_by_kind d.kind x && is_free w page x)) all (omega arith) small)))
 
--- where free grains stay free, room stays
-room_grows : (w v : World) (d : Directory) (page : ℕ) → ((b : ℕ) → b < 256 → is_free w page b ≡ true → is_free v page b ≡ true) → has_room w d page ≡ true
-    → has_room v d page ≡ true
-room_grows w v d page grows room =
-    let o : Fails 0 256 (λ b. not (usable_by_kind d.kind b && is_free w page b)) =
-    some_fails 256 0 (λ b. not (usable_by_kind d.kind b && is_free w page b))
-    (not-true (each_of 0 256 (λ b. not (usable_by_kind d.kind b && is_free w page b))) room) in
-    let both : (usable_by_kind d.kind o.number && is_free w page o.number) ≡ true = not-false _ o.fails in
-    room_from v d page o.number o.high (and_first (usable_by_kind d.kind o.number) (is_free w page o.number) both)
-    (grows o.number o.high (and_second (usable_by_kind d.kind o.number) (is_free w page o.number) both))
-
 -- An open page stays open where its free grains stay free and it doesn't become guarded.
 pub open_grows : (w v : World) (d : Directory) (page : ℕ) → (is_guarded w page ≡ false → is_guarded v page ≡ false)
     → ((b : ℕ) → b < 256 → is_free w page b ≡ true → is_free v page b ≡ true) → is_open w d page ≡ true → is_open v d page ≡ true
-open_grows w v d page unguarded grows h = is_opened v d page (unguarded (open_unguarded w d page h)) (room_grows w v d page grows (open_room w d page h))
+open_grows w v d page unguarded grows h =
+    is_opened v d page (unguarded (open_unguarded w d page h)) (let o : Fails 0 256 (λ b. not (usable_by_kind d.kind b && is_free w page b)) =
+    some_fails 256 0 (λ b. not (usable_by_kind d.kind b && is_free w page b))
+    (not-true (each_of 0 256 (λ b. not (usable_by_kind d.kind b && is_free w page b))) (and_second (not (is_guarded w page)) (has_room w d page) h)) in
+    let both : (usable_by_kind d.kind o.number && is_free w page o.number) ≡ true = not-false _ o.fails in
+    room_from v d page o.number o.high (and_first (usable_by_kind d.kind o.number) (is_free w page o.number) both)
+    (grows o.number o.high (and_second (usable_by_kind d.kind o.number) (is_free w page o.number) both)))
 
 -- ---- grains of a legal list
 -- a grain of a live block is held by nobody
@@ -207,9 +198,15 @@ module _ (f : Profile) (p : Progress) (w : World) (valid : IsValid f) (between :
   backed_is : (page : ℕ) → backed_in w.events page ≡ backed_in (visible p.list) page
   backed_is page = ap (λ (es : List Event). backed_in es page) same.events
 
-  idle_page : (page : ℕ) → is_idle w page ≡ true → IsEmptyBacked p.list page
-  idle_page page h =
-      let backed : backed_in w.events page ≡ true = and_first (backed_in w.events page) (is_empty w page) h in
+  -- A page that is backed and empty in the replay is idle in the text.
+  pub page_idle : (page : ℕ) → IsEmptyBacked p.list page → is_idle w page ≡ true
+  page_idle page e =
+      search (arith, each_all, bit_free, and_from, backed_is, one_backed, agrees)
+
+  -- at rest such a page is hinted
+  pub idle_hinted : (page : ℕ) → is_idle w page ≡ true → empty_bit p.list page ≡ true
+  idle_hinted page h = hinted_at_rest f p.list valid between.legal
+      (clear_of f p w valid between same) page (let backed : backed_in w.events page ≡ true = and_first (backed_in w.events page) (is_empty w page) h in
       let empty : is_empty w page ≡ true = and_second (backed_in w.events page) (is_empty w page) h in
       let none : is_guarded w page ≡ false = backed_unguarded page (sym (backed_is page) ∙ backed) in
       record {
@@ -218,16 +215,7 @@ module _ (f : Profile) (p : Progress) (w : World) (valid : IsValid f) (between :
             let whole : 256 * page + g % 256 ≡ g = omega (arith, of) in
             let small : g % 256 < 256 = omega arith in
             cc (free_unless f p w valid between same page (g % 256) small none, each_at 256 0 (g % 256) _ empty (omega arith) small);
-      }
-
-  -- A page that is backed and empty in the replay is idle in the text.
-  pub page_idle : (page : ℕ) → IsEmptyBacked p.list page → is_idle w page ≡ true
-  page_idle page e =
-      search (arith, each_all, bit_free, and_from, backed_is, one_backed, agrees)
-
-  -- at rest such a page is hinted
-  pub idle_hinted : (page : ℕ) → is_idle w page ≡ true → empty_bit p.list page ≡ true
-  idle_hinted page h = hinted_at_rest f p.list valid between.legal (clear_of f p w valid between same) page (idle_page page h)
+      })
 
 -- ==== THE PAGES after an act that only gives back
 pub record IsGivenBack (f : Profile) (k : ℕ) (l : Whole) (w : World) (steps : List Made) (v : World) : Type 0 where

@@ -1,15 +1,16 @@
 -- A PAGE IS MADE READY for a block: the events of a search before a give are those of the text, by the machine's rules alone.
 use Rattle.std.proofs.Common.{◌≡◌, ◌≢◌, ℕ, ◌==◌, Bool, true, false, if◌then◌else◌, List, [], ◌∷◌, ◌++◌, map, Option, None, Some, MatchOption, ◌⊎◌, inl, inr}
-use Rattle.std.proofs.Common.{refl, ap, sym, ◌∙◌, subst, ◌+◌, ◌*◌, ◌/◌, ◌<◌, ◌≤◌, arith, true≢false, eq-eqb, eqb-true, zero, suc, ne_eqb}
+use Rattle.std.proofs.{Common.{refl, ap, sym, ◌∙◌, subst, ◌+◌, ◌*◌, ◌/◌, ◌<◌, ◌≤◌, arith, true≢false, eq-eqb, eqb-true, zero, suc, ne_eqb}, lemmas.Bool.or_from}
 use Rattle.pas_same_text.proofs.Common.{none-some, Directory, Event, Profile, Block, grain_of, length_of, Run, deed_in, backed_in, event_of, with_event}
 use Rattle.pas_same_text.proofs.Common.{events_by, View, epoch_of, Made, Step, IsQuiet, IsDeedOrBack, EventsAt, Record, World, shows, live_after, is_none}
-use Rattle.pas_same_text.proofs.Common.{deeds, backs, readies, lives_in, to_run, never_fails, IsLone, false≢true, cases_eq, or_from, has_bit, IsKind, number_of}
-use Rattle.pas_same_text.proofs.Common.{deed_word_of, IsDirectoryOf, Word, deed_word_of-positive, all_map, triple, triples, made, target, Once, Always}
-use Rattle.pas_same_text.proofs.Common.{ReadsFree, Only, kind_of, is_in, InTurn, holds, has_right, known_deed, Whole, part, word_after, Legal, visible, Deed}
-use Rattle.pas_same_text.proofs.Common.{Back, Give, End, EndSized, Unback, part_of_own, always_map, eligible_bit, looked, number_told, deed_kept, known_is}
-use Rattle.pas_same_text.proofs.Common.{backed_of, LendsNone, legal_before, lends_none, spot_of, spotted, offered_has_deed, deeds_known, MakesNoDeedHere}
-use Rattle.pas_same_text.proofs.Common.{ReturnsDuly, DeedsRise, IsWholePage, IsUsablePage, IsLowestRun, MayFind, finding, BackStep, pages_from, MadeOf}
-use Rattle.pas_same_text.proofs.{Common.{free_bit, each, IsInRun, AllByRecursion, seeking, numbers_from}, Tests.eqb_itself, Flushes.visible_steps}
+use Rattle.pas_same_text.proofs.Common.{deeds, backs, readies, lives_in, to_run, never_fails, IsLone, false≢true, cases_eq, has_bit, IsKind, number_of}
+use Rattle.pas_same_text.proofs.Common.{deed_word_of, IsDirectoryOf, Word, deed_word_of-positive, all_map, triple, triples, made, target, Once, Always, Only}
+use Rattle.pas_same_text.proofs.Common.{kind_of, is_in, InTurn, holds, has_right, known_deed, Whole, part, word_after, Legal, visible, Deed, Back, Give, End}
+use Rattle.pas_same_text.proofs.Common.{EndSized, Unback, part_of_own, always_map, eligible_bit, looked, number_told, deed_kept, known_is, backed_of, LendsNone}
+use Rattle.pas_same_text.proofs.Common.{legal_before, lends_none, spot_of, spotted, offered_has_deed, deeds_known, MakesNoDeedHere, ReturnsDuly, DeedsRise}
+use Rattle.pas_same_text.proofs.Common.{IsWholePage, IsUsablePage, IsLowestRun, MayFind, finding, BackStep, pages_from, MadeOf, free_bit, each, IsInRun}
+use Rattle.pas_same_text.proofs.{Common.{AllByRecursion, seeking, numbers_from}, Tests.eqb_itself, Flushes.visible_steps}
+use Rattle.pas_steps.specs.Evidence.{ReadsFree}
 use Rattle.pas_machine.specs.Machine.{Admits, Bears}
 use Rattle.pas_large.specs.{Evidence.DeedsBelow, Finds.FoundRun}
 

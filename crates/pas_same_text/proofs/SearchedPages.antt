@@ -2,20 +2,19 @@
 use Rattle.std.proofs.Common.{◌≡◌, ℕ, ◌+◌, ◌-◌, ◌<◌, ◌≤◌, nat_le, Bool, true, if◌then◌else◌, Option, None, Some, inl, inr, ap, sym, ◌∙◌, arith, ◌≢◌, zero, suc}
 use Rattle.std.proofs.Common.{false, ◌&&◌, List, [], ◌∷◌, ◌++◌, Ok, Err, refl, true≢false, eq-eqb, ◌⊎◌, subst, ◌==◌}
 use Rattle.pas_large.specs.Telling.{HasNoUsableRun}
-use Rattle.pas_same_text.{specs.{Indexes.named_first, Runs.{is_whole, if_whole}, Searches.{page_or, refusal_by}}, proofs.FreeGrains.{read_unless, keeper}}
-use Rattle.pas_same_text.proofs.{FreeGrains.kept_by, GivenBack.{each_at, each_all}, Tests.{and_first, and_second}, CacheLists.{same_kept, kept_at}}
-use Rattle.pas_same_text.proofs.{Flushes.visible_steps, StepMarks.{epoch_stays_by, at_bare, at_unbacked}, SmallActs.{after_with, records_next}, Pieces.IsPiece}
-use Rattle.pas_same_text.proofs.{Pieces.piece_pages, RestingPages.{open_unguarded, had_open, owned_is, no_word, unowned_by, deed_now, deed_from_word}}
-use Rattle.pas_same_text.proofs.Common.{or_cases, or_left, or_right, and_from, false_from_ne_true, cases_Bool, cases_eq, false≢true, nat_tests, number_of}
-use Rattle.pas_same_text.proofs.Common.{deed_word_of, IsValid, IsPage, IsDirectoryOf, Directory, Profile, Word, Event, NoRoom, deed_word_of-positive}
-use Rattle.pas_same_text.proofs.Common.{same_from_deed_word, deed_in, live_in, part, word_after, Legal, visible, triples, target, Readings, Once, has_right}
-use Rattle.pas_same_text.proofs.Common.{events_by, eligible_bit, free_of_page, IsRightInOnePlace, word_of_deed, deed_has_page, deed_of, offered_deed, deed_none}
-use Rattle.pas_same_text.proofs.Common.{legal_before, lends_none, IsWholePage, IsUsablePage, IsUsableRun, IsLowestRun, IsNamedWhole, Progress, Named, named}
-use Rattle.pas_same_text.proofs.Common.{records_of, said_of_room, World, HasSame, ArePagesSame, IsSame, IsBetween, IsSearch, each_of, is_unowned, is_free}
-use Rattle.pas_same_text.proofs.Common.{is_empty, is_offered, page_numbers, is_none, is_same, is_of, is_kept, large_of, is_usable, named_run, is_run}
-use Rattle.pas_same_text.proofs.Common.{lowest_run, find, Made, spot_of, spotted, right_not_offered, right_in_one_place, FromOffered, ByDeed, IsTrueReason}
-use Rattle.pas_same_text.proofs.Common.{numbers_from, IsThread, some_of, refusal, searched, refuses, Cached, allocating, any_covers, only_within, always_map}
-use Rattle.pas_same_text.proofs.Common.{AreSearch, IsQuiet, IsDeedOrBack, AreQuiet, EventsAt, searching, Record}
+use Rattle.pas_same_text.{specs.{Indexes.named_first, Runs.is_whole, Searches.{page_or, refusal_by}}, proofs.FreeGrains.{read_unless, keeper, kept_by}}
+use Rattle.pas_same_text.proofs.{GivenBack.{each_at, each_all}, Tests.{and_first, and_second}, CacheLists.{same_kept, kept_at}, Flushes.visible_steps}
+use Rattle.pas_same_text.proofs.{StepMarks.{epoch_stays_by, at_bare, at_unbacked}, SmallActs.{after_with, records_next}, Pieces.{IsPiece, piece_pages}}
+use Rattle.pas_same_text.proofs.{RestingPages.{open_unguarded, had_open, owned_is, no_word, unowned_by, deed_now, deed_from_word}, Common.{or_cases, or_left}}
+use Rattle.pas_same_text.proofs.Common.{or_right, and_from, false_from_ne_true, cases_eq, false≢true, nat_tests, number_of, deed_word_of, IsValid, IsPage}
+use Rattle.pas_same_text.proofs.Common.{IsDirectoryOf, Directory, Profile, Word, Event, NoRoom, deed_word_of-positive, same_from_deed_word, deed_in, live_in}
+use Rattle.pas_same_text.proofs.Common.{part, word_after, visible, Readings, eligible_bit, free_of_page, IsRightInOnePlace, word_of_deed, deed_has_page}
+use Rattle.pas_same_text.proofs.Common.{deed_of, offered_deed, legal_before, lends_none, IsWholePage, IsUsablePage, IsUsableRun, IsLowestRun, IsNamedWhole}
+use Rattle.pas_same_text.proofs.Common.{Progress, Named, named, records_of, said_of_room, World, HasSame, ArePagesSame, IsSame, IsBetween, IsSearch, each_of}
+use Rattle.pas_same_text.proofs.Common.{is_unowned, is_free, is_empty, is_offered, page_numbers, is_same, is_of, is_kept, large_of, is_usable, named_run}
+use Rattle.pas_same_text.proofs.Common.{is_run, lowest_run, find, Made, right_not_offered, right_in_one_place, FromOffered, ByDeed, IsTrueReason, numbers_from}
+use Rattle.pas_same_text.proofs.Common.{IsThread, some_of, refusal, searched, refuses, Cached, allocating, any_covers, only_within, always_map, AreSearch}
+use Rattle.pas_same_text.proofs.Common.{IsQuiet, IsDeedOrBack, AreQuiet, EventsAt, searching, Record}
 use Rattle.pas_core.{proofs.Rights.right_not_parked, specs.Fits.IsOfferedFit}
 use Rattle.pas_search.{specs.Telling.IsInHands, proofs.{ForBackEnds.events_quiet, FindingAPage.{by_deed, lowest_offered}}}
 
@@ -46,20 +45,12 @@ module _ (no_fit : Readings → Type 0) (f : Profile) (d : Directory) (k : ℕ) 
   serves q = is_offered w d q && some_of (fits q)
 
   module _ (page : ℕ) (of : IsPage f page) (steps : List Made) (s : IsSearch no_fit f d k p steps w fits) where
-    -- The list before the search is legal.
-    first : Legal f p.list
-    first = legal_before f k steps p.list s.legal
-
-    -- a page on which it doesn't fit doesn't serve; where a guard has it, it isn't offered
-    unfit_over : (q : ℕ) → IsPage f q → no_fit (free_of_page p.list q) → (t : Bool) → is_offered w d q ≡ t → serves q ≡ false
-    unfit_over q here unfit h offered = search (arith, open_unguarded, had_open)
-
     -- a page that serves in the text is offered in the replay, and fits
     serving : (q : ℕ) → IsPage f q → serves q ≡ true → IsOfferedFit no_fit f d p.list q
     serving q here h = record {
       of_region = here;
       offered = sym (s.pages.offered q d s.directory) ∙ and_first (is_offered w d q) (some_of (fits q)) h;
-      fits = λ unfit. false≢true (sym (unfit_over q here unfit (is_offered w d q) refl) ∙ h);
+      fits = λ unfit. false≢true (sym (search (arith, open_unguarded, had_open)) ∙ h);
     }
 
     -- THE PAGE that a search found offered is the one that the text finds.
@@ -76,7 +67,7 @@ module _ (no_fit : Readings → Type 0) (f : Profile) (d : Directory) (k : ℕ) 
     pub deed_chosen : ByDeed no_fit f d page steps → searched f w d fits ≡ Ok page
     deed_chosen by =
         let lowest = by_deed no_fit f k p.list d page steps s.fewer of s.legal s.lends_none by.made_here in
-        let owned = owned_is f p.list w first s.pages.events in
+        let owned = owned_is f p.list w (legal_before f k steps p.list s.legal) s.pages.events in
         let none = find_none serves f.pages 1 (λ q above below. false_from_ne_true (serves q) (λ h. lowest.none_offered q (serving q (above, omega (arith, below)) h))) in
         let found : find (is_unowned w) (page_numbers f) ≡ Some page =
         find_first (is_unowned w) f.pages 1 page of.0 (omega (arith, of.1)) (unowned_by (deed_in w.events page) (sym (owned page) ∙ lowest.this.no_deed)) (λ q above below.
@@ -85,10 +76,6 @@ module _ (no_fit : Readings → Type 0) (f : Profile) (d : Directory) (k : ℕ) 
         cc
 
 -- ==== WHICH PAGES MAY BE ONE OF A RUN, and which run the text gives: those of a replay, whenever all actors are at rest.
--- where the run that is named is whole, it is the one that is given
-whole_of : (w : World) (heap n first : ℕ) (o : Option ℕ) → if_whole w heap n o ≡ Some first → (o ≡ Some first) × (each_of first n (is_whole w heap) ≡ true)
-whole_of w heap n first o same = search arith
-
 module _ (f : Profile) (p : Progress) (w : World) (valid : IsValid f) (between : IsBetween f p) (pages : ArePagesSame f p.list w) (same : HasSame f p w)
     (heap : ℕ) (of : IsDirectoryOf f (large_of heap)) where
   abbrev d : Directory
@@ -152,7 +139,7 @@ module _ (f : Profile) (p : Progress) (w : World) (valid : IsValid f) (between :
   -- The run that serves by the text's index is the named one, whole in the replay.
   pub named_whole : (n first : ℕ) → 1 ≤ n → named_run w heap n ≡ Some first → IsNamedWhole f d n p.list (named_first w heap n) first
   named_whole n first some h =
-      let both = whole_of w heap n first (named_first w heap n) h in
+      let both : ((named_first w heap n) ≡ Some first) × (each_of first n (is_whole w heap) ≡ true) = search arith in
       let each : (page : ℕ) → first ≤ page → page < first + n → is_whole w heap page ≡ true = λ page low high. each_at n first page _ both.1 low high in
       let last : IsPage f (first + n - 1) = of_region (first + n - 1) (each (first + n - 1) (omega (arith, some)) (omega (arith, some))) in
       let low = (of_region first (each first (omega arith) (omega (arith, some)))).0 in let high = last.1 in
@@ -214,20 +201,13 @@ module _ (f : Profile) (k name : ℕ) (p : Progress) (w : World) (d : Directory)
   abbrev v : World
   v = refuses k name room w
 
-  no_event : events_by k (part k p.list) steps ≡ []
-  no_event = events_quiet k (part k p.list) steps quiet
-
   -- The refused search makes no event.
   shown : visible p'.list ≡ visible p.list
-  shown = visible_steps k steps p.list ∙ ap (λ (es : List Event). es ++ visible p.list) no_event
+  shown = visible_steps k steps p.list ∙ ap (λ (es : List Event). es ++ visible p.list) (events_quiet k (part k p.list) steps quiet)
 
   -- Afterwards the replay has what the text has.
   now : HasSame f p' v
   now = assumption (same.pages.events ∙ sym shown, same_kept f p.caches w.caches k same.caches)
-
-  -- No number is the one behind it.
-  beside : (x : ℕ) → suc x ≢ x
-  beside x same = omega (arith, same)
 
   -- no page changes
   piece : IsPiece f k p p' w v (λ x. false) steps []
@@ -246,8 +226,8 @@ module _ (f : Profile) (k name : ℕ) (p : Progress) (w : World) (d : Directory)
       outer = λ j x h. inl h;
       live = λ a b h. inl (ap (λ (es : List Event). live_in es a) (sym shown) ∙ h);
     };
-    bare = λ x out. at_bare k d (suc x) x steps (beside x) (quiet_at d (suc x) steps quiet);
-    unbacked = λ x out. at_unbacked k d (suc x) x steps (beside x) (quiet_at d (suc x) steps quiet);
+    bare = λ x out. at_bare k d (suc x) x steps (λ same. omega (arith, same)) (quiet_at d (suc x) steps quiet);
+    unbacked = λ x out. at_unbacked k d (suc x) x steps (λ same. omega (arith, same)) (quiet_at d (suc x) steps quiet);
     deeds = λ x out. refl;
     hinted = refl;
     marks = λ x h. absurd h;
@@ -259,7 +239,8 @@ module _ (f : Profile) (k name : ℕ) (p : Progress) (w : World) (d : Directory)
   pub refused_same : IsSame f p' (refuses k name (refusal f w d) w)
   refused_same =
       let line : Record = Record.Said k (said_of_room name room) in
-      let one = ap (λ (es : List Event). p.records ++ (records_of es ++ line ∷ [])) no_event ∙ records_next p.records w.records line same.records in
+      let one = ap (λ (es : List Event). p.records ++ (records_of es ++ line ∷ [])) (events_quiet k (part k p.list) steps quiet)
+      ∙ records_next p.records w.records line same.records in
       let epoch = same.epoch ∙ sym (epoch_stays_by allocating refl k steps p.list (only_within searching allocating steps refl searches.kinds)) in
       let told : IsSame f p' v = assumption (piece_pages piece, now, one, epoch, ap (λ (ns : List Named). named name None ∷ ns) same.names) in
       subst (λ (r : NoRoom). IsSame f p' (refuses k name r w)) (sym (refusal_told f p' v valid after now d of room reason)) told

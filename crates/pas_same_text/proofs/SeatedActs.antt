@@ -2,13 +2,12 @@
 use Rattle.std.proofs.Common.{◌≡◌, ℕ, ◌==◌, Bool, true, false, if◌then◌else◌, [], ◌∷◌, refl, ap, subst, eqb-true, ◌*◌, ◌/◌, List, ◌++◌, inl, inr, sym, ◌∙◌}
 use Rattle.std.proofs.Common.{arith, eq-eqb, Option, None, Some, ne_eqb}
 use Rattle.pas_same_text.proofs.Common.{IsValid, Profile, Block, Word, Whole, part, visible, Legal, word_after, View, HasNothing, triples, made, Made, Step}
-use Rattle.pas_same_text.proofs.Common.{agreed_steps, legal_before, legal_earlier, Act, IsThread, Progress, Caches, with_cache as with_cached, Books, with_book}
+use Rattle.pas_same_text.proofs.Common.{agreed_steps, legal_before, legal_earlier, Act, IsThread, Progress, with_cache as with_cached, Books, with_book}
 use Rattle.pas_same_text.proofs.Common.{wanted_by, IsBetween, AreEndsStamped, IsResting, AreResting, false≢true, eqb-false, or_left, or_right, backed_in}
 use Rattle.pas_same_text.proofs.Common.{part_of_others, triples_append, part_of_own, Slots, AtRest, Cached, any_covers, is_outer_of, is_outer, Each, FitsBook}
 use Rattle.pas_same_text.proofs.Common.{Guard, Record, IsBeside, Request, Op, Tried, IsTried, after_trying, after_lowering, AnswersTried, AnswersGuarded}
-use Rattle.pas_same_text.proofs.{Common.{IsThreadOf, IsKeeperOf, IsActOf, AreSeated}, CacheLists.again_at, LowerActs.swept_to, KeepersRest.others_bare}
-use Rattle.pas_same_text.proofs.KeepersRest.{keeper_resting, swept_beside, swept_bare, raised_beside, raised_bare, thread_rests, thread_at_rest, keeper_of}
-use Rattle.pas_same_text.{proofs.KeepersRest.IsNoKeepers, specs.Acts.KeepsStamped}
+use Rattle.pas_same_text.proofs.{Common.{IsThreadOf, IsKeeperOf, IsActOf, AreSeated}, LowerActs.swept_to, KeepersRest.{others_bare, keeper_resting}}
+use Rattle.pas_same_text.{proofs.KeepersRest.{swept_beside, swept_bare, raised_beside, raised_bare, keeper_of, IsNoKeepers}, specs.Acts.KeepsStamped}
 use Rattle.pas_core.{specs.Stamps.AllKeepToEnds, proofs.Lives.stamps_are_ends}
 use Rattle.pas_trace.specs.Acts.{stepper_of}
 use Rattle.pas_answers.{specs.{Answers.epoch_look, Guarding.IsLowered, Reaching.Advances}, proofs.Consequences.{act_tidy, parts_kept, KeptPart, Tidy}}
@@ -54,12 +53,9 @@ thread_book f c (g ∷ gs) v resting rest = absurd (elim resting.locals.one_kind
 
 -- An actor that was at rest with its cache alone is so with the cache that it rests with later.
 pub at_rest_now : (f : Profile) (c c' : Cached) (gs : List Guard) (v v' : View) → IsResting f c gs v → AtRest f c v → IsResting f c' gs v' → AtRest f c' v'
-at_rest_now f c c' gs v v' resting rest now = thread_at_rest f c' v' (subst (λ (xs : List Guard). IsResting f c' xs v') (thread_book f c gs v resting rest) now)
+at_rest_now f c c' gs v v' resting rest now = search arith
 
 -- ---- a cache that became another twice
-pub cached_again : (caches : Caches) (k : ℕ) (c d : Cached) → with_cached (with_cached caches k c) k d ≡ with_cached caches k d
-cached_again caches k c d = λ i j. again_at caches j k c d (j == k) i
-
 -- ==== THREAD k went on by these steps, and rests with this cache then
 module _ (f : Profile) (p : Progress) (k : ℕ) (c' : Cached) (xs : List Made) (valid : IsValid f) (thread : IsThread f k) (before : IsBetween f p)
     (rest : AtRest f (p.caches k) (part k p.list)) (legal : Legal f (triples k xs ++ p.list)) (now : AtRest f c' (part k (triples k xs ++ p.list))) where
@@ -72,7 +68,7 @@ module _ (f : Profile) (p : Progress) (k : ℕ) (c' : Cached) (xs : List Made) (
 
   -- Each thread still rests.
   working : (j : ℕ) → IsThread f j → (t : Bool) → (j == k) ≡ t → IsResting f (if t then c' else p.caches j) (p.books j) (part j l)
-  working j is true e = search (arith, eqb-true, thread_book, thread_rests)
+  working j is true e = search (arith, eqb-true, thread_book)
   working j is false e = rw (part_of_others j k xs p.list (λ same. eqb-false j k e (sym same))) (before.rest.working j is)
 
   still_bare : (j page : ℕ) → is_outer (p.books j) page ≡ true → (t : Bool) → (k == j) ≡ t → backed_in (visible l) page ≡ false
@@ -235,10 +231,6 @@ guarded_seats threads f keeper op (Some r) p p' valid keeps own before seated is
     let tried : AreSeated threads f midway = seated_rest threads f p keeper t.guards _ midway keeps seated refl refl refl rest in
     after_tried threads f op r t.block midway p' valid own (record { legal = here; rest = rest }) tried is.2 legal
 
--- one that acts in an act of no keeper is none
-steps_no_keeper : (threads : ℕ) (f : Profile) (act : Act) → IsNoKeepers act → IsActOf threads f act → IsKeeperOf threads f (stepper_of act) → ⊥
-steps_no_keeper threads f act own is keeps = search (arith, thread_no_keeper)
-
 -- After each act only keepers have guards up, and cache nothing.
 pub seated_next : (threads : ℕ) (f : Profile) (act : Act) (p p' : Progress) → IsValid f → IsActOf threads f act → IsBetween f p → AreSeated threads f p
     → Advances f act p p' → Legal f p'.list → AreSeated threads f p'
@@ -246,4 +238,4 @@ seated_next threads f (Act.Guards keeper op) p p' valid own before seated is leg
 seated_next threads f (Act.Lowers keeper) p p' valid own before seated is legal =
     rw is.3 (seated_lowered threads f keeper p is.0 is.1 valid own before seated is.2 (subst (λ (q : Progress). Legal f q.list) is.3 legal))
 seated_next threads f act p p' valid own before seated is legal =
-    seated_moved threads f p p' (stepper_of act) valid before legal (steps_no_keeper threads f act tt own) seated (moved f act p p' tt is)
+    seated_moved threads f p p' (stepper_of act) valid before legal (λ keeps. search (arith, thread_no_keeper)) seated (moved f act p p' tt is)

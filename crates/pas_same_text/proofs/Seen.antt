@@ -4,9 +4,9 @@ use Rattle.std.proofs.Common.{ℕ, ◌+◌, ◌*◌, ◌/◌, ◌==◌, Bool, tr
 use Rattle.pas_bits.specs.Bits.{count_below}
 use Rattle.pas_report.specs.{Reports.live_on, Totals.totals_of, declared.totals.Totals.Totals}
 use Rattle.pas_trace.specs.Plans.{parsed, fault_at}
-use Rattle.pas_same_text.{specs.{Order.region_of, Reports.marks_of}, proofs.Common.{flat_map, Directory, Kind as TheKind, Event as TheEvent, Event, Why, Block}}
-use Rattle.pas_same_text.proofs.Common.{Name, Profile, grain_of, deed_in, epoch_in, Marked, Record as TheRecord, Record, Said, Parsed, Reason, TraceFault}
-use Rattle.pas_same_text.proofs.Common.{World, page_numbers, blocks_on, is_covered, replay_of}
+use Rattle.pas_same_text.proofs.Common.{region_of, flat_map, Directory, Kind as TheKind, Event as TheEvent, Event, Why, Block, Name, Profile, grain_of, deed_in}
+use Rattle.pas_same_text.proofs.Common.{epoch_in, Marked, Record as TheRecord, Record, Said, Parsed, Reason, TraceFault, World, page_numbers, blocks_on}
+use Rattle.pas_same_text.{proofs.Common.{is_covered, replay_of}, specs.Reports.marks_of}
 
 -- ---- what is seen
 pub record Row : Type 0 where

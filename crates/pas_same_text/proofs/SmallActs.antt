@@ -2,14 +2,15 @@
 use Rattle.std.proofs.Common.{arith, ◌≡◌, ℕ, ◌==◌, Bool, true, false, ◌&&◌, if◌then◌else◌, List, ◌∷◌, refl, ap, ◌≤◌, length, max, [], ◌++◌, reverse, sym, ◌∙◌}
 use Rattle.std.proofs.Common.{subst, ◌+◌, ◌*◌, ◌/◌, ◌%◌, nat_le, nat_lt, Option, None, Some, inl, inr, append-nil, eq-eqb, ne_eqb}
 use Rattle.pas_profile.specs.declared.event.FreeFault.{FreeFault, TheVariants.{Outside, Unaligned}}
-use Rattle.pas_same_text.specs.{State.set_noted, Acts.HasLogRoom, Indexes.settles, Order.begins, Passes.ticks, Frees.refuses_free}
+use Rattle.pas_same_text.specs.{State.set_noted, Acts.HasLogRoom, Indexes.settles, Order.begins, Passes.ticks, Frees.{refuses_free, logs, frees_named}}
 use Rattle.pas_same_text.proofs.{CacheLists.{all_locals, locals_with, same_with, same_kept}, Common.{same_word, address_of, Block, Profile, Word, Name, Whole}}
-use Rattle.pas_same_text.proofs.Common.{word_after, visible, Legal, part, made, triple, events_by, Look, Tick, Made, empty_bit, eligible_bit, World, Cache}
-use Rattle.pas_same_text.proofs.Common.{each, cache_of, set_cache, noted_of, says, ArePagesSame, IsSame, IsSameCache, StaysSame, StaysSameWhere, indexes_run}
+use Rattle.pas_same_text.proofs.Common.{word_after, visible, Legal, part, made, triple, events_by, Look, Made, empty_bit, eligible_bit, World, Cache, each}
+use Rattle.pas_same_text.proofs.Common.{cache_of, set_cache, noted_of, says, ArePagesSame, IsSame, IsSameCache, StaysSame, StaysSameWhere, indexes_run}
 use Rattle.pas_same_text.proofs.Common.{reverse_onto, nat_tests, EndedRun, Entry, Record, Said, Said as TheSaid, Act, IsThread, Progress, with_records, Named}
-use Rattle.pas_same_text.proofs.Common.{Answer, after_answer, IsFreed, IsFreedBy, standing_for, with_steps, records_of, said_by, room_noted, entry_of}
-use Rattle.pas_same_text.proofs.Common.{sized_entry, TakesEntry, Cached, Free, FreeSized, Raw, RawSized, adds, logs, frees, frees_what, frees_named, What}
-use Rattle.pas_answers.specs.Answers.{begun, after_settling, after_wake, after_tick, said_of_fault}
+use Rattle.pas_same_text.proofs.Common.{Answer, after_answer, IsFreed, IsFreedBy, standing_for, with_steps, records_of, said_by, entry_of, sized_entry}
+use Rattle.pas_same_text.proofs.Common.{TakesEntry, Cached, Free, Raw, adds, frees, frees_what, What}
+use Rattle.pas_steps.specs.declared.step.Step.TheVariants.{Tick}
+use Rattle.pas_answers.specs.Answers.{room_noted, begun, after_settling, after_wake, after_tick, said_of_fault}
 use Rattle.pas_cache.specs.Calls.{RefusesName}
 
 -- ---- lists of steps with the same events and the same bits of pages
@@ -25,10 +26,6 @@ unchanged l = record { events = refl; hints = λ page. refl; offers = λ number 
 -- a look changes no word
 look_word : (k a : ℕ) (word w : Word) (l : Whole) → word_after (triple k (made (Look word) a) ∷ l) w ≡ word_after l w
 look_word k a word w l = elim (same_word word w) as (λ t. (if t then word_after l w else word_after l w) ≡ word_after l w) [ true ↦ refl | false ↦ refl ]
-
--- A look leaves events, hints and offers as they were.
-look_pages : (k a : ℕ) (word : Word) (l : Whole) → HaveSamePages l (triple k (made (Look word) a) ∷ l)
-look_pages k a word l = search (arith, look_word)
 
 -- ---- states of the text with the same pages
 pub record HaveSameState (w w' : World) : Type 0 where
@@ -72,29 +69,24 @@ cache_state w k new is = record { events = refl; live = refl; hinted = refl; loc
 read_now : (f : Profile) (p : Progress) (k epoch : ℕ) → Legal f (triple k (made (Look Word.Epoch) epoch) ∷ p.list) → epoch ≡ word_after p.list Word.Epoch
 read_now f p k epoch legal = legal.0.answer_is
 
-wakes_to : (f : Profile) (k epoch : ℕ) (p : Progress) (w : World) → IsThread f k → k ≤ length w.caches → IsSame f p w → Legal f (after_wake p k epoch).list
-    → IsSame f (after_wake p k epoch) (begins k w)
-wakes_to f k epoch p w is listed same legal =
-    let own : Cache = cache_of w k in
-    let was : IsSameCache (p.caches k) own = same.caches.each k is in
-    let new : Cache = record own { idle_since = w.epoch } in
-    let now : w.epoch ≡ epoch = same.epoch ∙ sym (read_now f p k epoch legal) in
-    let look : Whole = triple k (made (Look Word.Epoch) epoch) ∷ p.list in
-    let pages = pages_next f p.list look w (begins k w) same.pages (look_pages k epoch Word.Epoch p.list) (cache_state w k new refl) in
-    let caches = same_with f p.caches w.caches k (begun (p.caches k) epoch) new is listed same.caches (assumption) in
-    assumption (pages, caches, same.epoch ∙ sym (look_word k epoch Word.Epoch Word.Epoch p.list))
-
 -- A thread's reading of the epoch at a phase leads the text to the replay's state.
 pub wake_same : (f : Profile) (k : ℕ) → IsThread f k → StaysSame f (Act.Wakes k)
 wake_same f k is p p' w taken =
     let epoch : ℕ = taken.advances.0 in
     let legal : Legal f (after_wake p k epoch).list = subst (λ (q : Progress). Legal f q.list) taken.advances.1 taken.after.legal in
-    subst (λ (q : Progress). IsSame f q (begins k w)) (sym taken.advances.1) (wakes_to f k epoch p w is taken.listed taken.same legal)
+    subst (λ (q : Progress). IsSame f q (begins k w)) (sym taken.advances.1) (let own : Cache = cache_of w k in
+    let was : IsSameCache (p.caches k) own = taken.same.caches.each k is in
+    let new : Cache = record own { idle_since = w.epoch } in
+    let now : w.epoch ≡ epoch = taken.same.epoch ∙ sym (read_now f p k epoch legal) in
+    let look : Whole = triple k (made (Look Word.Epoch) epoch) ∷ p.list in
+    let pages = pages_next f p.list look w (begins k w) taken.same.pages (search (arith, look_word)) (cache_state w k new refl) in
+    let caches = same_with f p.caches w.caches k (begun (p.caches k) epoch) new is taken.listed taken.same.caches (assumption) in
+    assumption (pages, caches, taken.same.epoch ∙ sym (look_word k epoch Word.Epoch Word.Epoch p.list)))
 
 -- ---- the scavenger reads the epoch
 -- The scavenger's reading of the epoch leads the text to the replay's state.
 pub reading_same : (f : Profile) → StaysSame f Act.ReadsEpoch
-reading_same f p p' w taken = search (arith, pages_next, look_pages, look_word, read_now)
+reading_same f p p' w taken = search (arith, pages_next, look_word, read_now)
 
 -- ---- a tick
 ticks_to : (f : Profile) (asked answer : ℕ) (p : Progress) (w : World) → IsSame f p w → Legal f (after_tick p asked answer).list
@@ -148,17 +140,6 @@ said_same f k said p w same = assumption (same_kept f p.caches w.caches k same.c
 abbrev with_entry : Cached → Entry → Cached
 with_entry c entry = record c { log = c.log ++ entry ∷ []; noted = c.noted }
 
-added_same : (f : Profile) (k : ℕ) (entry : Entry) (p : Progress) (w : World) → IsThread f k → k ≤ length w.caches → IsSame f p w
-    → IsSame f (after_with p k [] None p.names (with_entry (p.caches k) entry)) (adds k entry w)
-added_same f k entry p w is listed same =
-    let own : Cache = cache_of w k in
-    let was : IsSameCache (p.caches k) own = same.caches.each k is in
-    let new : Cache = record own { log = own.log ++ entry ∷ [] } in
-    let log : new.log ≡ (with_entry (p.caches k) entry).log = ap (λ (es : List Entry). es ++ entry ∷ []) was.log in
-    let caches = same_with f p.caches w.caches k (with_entry (p.caches k) entry) new is listed same.caches (assumption) in
-    let pages = pages_next f p.list p.list w (set_cache k new w) same.pages (unchanged p.list) (cache_state w k new refl) in
-    assumption (pages, caches, append-nil p.records ∙ same.records)
-
 -- ---- where the address is
 pub page_inside : (pages a : ℕ) → 1 ≤ a / 4096 → a / 4096 ≤ pages → (nat_le 4096 a && nat_lt a (4096 * (pages + 1))) ≡ true
 page_inside pages a some few = search (arith, nat_tests)
@@ -176,32 +157,30 @@ freed_is f k entry w inside aligned e h =
     ap (λ (t : Bool). freed_by f k entry w t (address_of entry.name % 16 == 0)) e ∙ ap (λ (u : Bool). freed_by f k entry w inside u) h
 
 -- ---- the cache after it
--- there is room, so that nothing is flushed, and the log has the entry more
-logged_cache : (f : Profile) (k : ℕ) (c c' : Cached) (entry : Entry) (steps : List Made) → nat_le 64 (length c.log) ≡ false → TakesEntry f k c c' entry steps
-    → (steps ≡ []) × (c' ≡ with_entry c entry)
-logged_cache f k c c' entry steps room takes = search arith
-
 -- ---- the free
 logged_same : (f : Profile) (k : ℕ) (entry : Entry) (p : Progress) (w : World) (c' : Cached) (steps : List Made) → IsThread f k → k ≤ length w.caches
     → IsSame f p w → nat_le 64 (length (p.caches k).log) ≡ false
     → TakesEntry f k (p.caches k) c' entry steps → IsSame f (after_with p k steps None p.names c') (frees f k entry w)
 logged_same f k entry p w c' steps is listed same room takes =
-    let to = logged_cache f k (p.caches k) c' entry steps room takes in
+    let to : (steps ≡ []) × (c' ≡ with_entry (p.caches k) entry) = search arith in
     let inside = page_inside f.pages (address_of entry.name) takes.region.page.0 takes.region.page.1 in
     let text : frees f k entry w ≡ adds k entry w =
     freed_is f k entry w true true inside (eq-eqb (address_of entry.name % 16) 0 takes.region.aligned) ∙ (search (arith, same.caches.each)) in
-    rw (text, to.0, to.1) (added_same f k entry p w is listed same)
-
-refused_text : (f : Profile) (k : ℕ) (entry : Entry) (w : World) (c c' : Cached) (steps : List Made) (fault : FreeFault)
-    → RefusesName f c c' entry.name steps fault → frees f k entry w ≡ refuses_free k entry.name fault w
-refused_text f k entry w c c' steps a refuses = search (arith, freed_is, page_inside, ne_eqb)
+    rw (text, to.0, to.1) (let own : Cache = cache_of w k in
+    let was : IsSameCache (p.caches k) own = same.caches.each k is in
+    let new : Cache = record own { log = own.log ++ entry ∷ [] } in
+    let log : new.log ≡ (with_entry (p.caches k) entry).log = ap (λ (es : List Entry). es ++ entry ∷ []) was.log in
+    let caches = same_with f p.caches w.caches k (with_entry (p.caches k) entry) new is listed same.caches (assumption) in
+    let pages = pages_next f p.list p.list w (set_cache k new w) same.pages (unchanged p.list) (cache_state w k new refl) in
+    assumption (pages, caches, append-nil p.records ∙ same.records))
 
 -- A free whose name can't be a block's is refused at once in the text as in the replay.
 pub refused_same : (f : Profile) (k : ℕ) (entry : Entry) (p : Progress) (w : World) (c' : Cached) (steps : List Made) (fault : FreeFault) → IsSame f p w
     → RefusesName f (p.caches k) c' entry.name steps fault
     → IsSame f (after_with p k steps (Some (said_of_fault entry.name fault)) p.names c') (frees f k entry w)
 refused_same f k entry p w c' steps fault same refuses =
-    rw (refused_text f k entry w (p.caches k) c' steps fault refuses, refuses.no_steps, refuses.cache) (said_same f k (said_of_fault entry.name fault) p w same)
+    let refused_text : frees f k entry w ≡ refuses_free k entry.name fault w = search (arith, freed_is, page_inside, ne_eqb) in
+    rw (refused_text, refuses.no_steps, refuses.cache) (said_same f k (said_of_fault entry.name fault) p w same)
 
 -- A free into a log with room leads the text to the replay's state.
 pub freed_same : (f : Profile) (k : ℕ) (entry : Entry) (p : Progress) (w : World) (c' : Cached) (steps : List Made) (said : Option TheSaid) → IsThread f k
@@ -230,7 +209,7 @@ module _ (f : Profile) (k : ℕ) (p p' : Progress) (w : World) (a : Answer) (sam
       subst (λ (ns : List Named). IsSame f p' (frees_what f k name (room_noted size) (standing_for ns name) w)) (sym same.names)
       (named_by free name size (standing_for p.names name) freed)
 
-  entry_same : IsThread f k → k ≤ length w.caches → HasLogRoom k p → FreesSame
+  pub entry_same : IsThread f k → k ≤ length w.caches → HasLogRoom k p → FreesSame
   entry_same is listed room entry freed =
       rw (reached, names) (freed_same f k entry p w a.cache a.steps a.said is listed same (grind (arith, nat_tests, room)) freed)
 
@@ -244,12 +223,7 @@ pub raw_same : (f : Profile) (line k : ℕ) (block : Name) → IsThread f k → 
 raw_same f line k block is p p' w room taken =
     entry_same f k p p' w taken.advances.0 taken.same taken.advances.1.1 taken.advances.2 is taken.listed room (entry_of block) taken.advances.1.0
 
--- A free of a bare name with its room into a log with room leads the text to the replay's state.
-pub raw_sized_same : (f : Profile) (line k room : ℕ) (block : Name) → IsThread f k → StaysSameWhere (HasLogRoom k) f (asks line k (RawSized room block))
-raw_sized_same f line k size block is p p' w room taken =
-    entry_same f k p p' w taken.advances.0 taken.same taken.advances.1.1 taken.advances.2 is taken.listed room (sized_entry block size) taken.advances.1.0
-
-named_room : (f : Profile) (k name : ℕ) (size : Option ℕ) (p p' : Progress) (w : World) (a : Answer) → IsThread f k → k ≤ length w.caches → IsSame f p w
+pub named_room : (f : Profile) (k name : ℕ) (size : Option ℕ) (p p' : Progress) (w : World) (a : Answer) → IsThread f k → k ≤ length w.caches → IsSame f p w
     → HasLogRoom k p → IsFreedBy f k (p.caches k) a.cache name size (standing_for p.names name) a.steps a.said → a.names ≡ p.names
     → p' ≡ after_answer p k a → IsSame f p' (frees_named f k name (room_noted size) w)
 named_room f k name size p p' w a is listed same room freed names reached =
@@ -259,8 +233,3 @@ named_room f k name size p p' w a is listed same room freed names reached =
 pub named_same : (f : Profile) (line k name : ℕ) → IsThread f k → StaysSameWhere (HasLogRoom k) f (asks line k (Free name))
 named_same f line k name is p p' w room taken =
     named_room f k name None p p' w taken.advances.0 is taken.listed taken.same room taken.advances.1.0 taken.advances.1.1 taken.advances.2
-
--- A free of a name of the trace with its room into a log with room leads the text to the replay's state.
-pub named_sized_same : (f : Profile) (line k name room : ℕ) → IsThread f k → StaysSameWhere (HasLogRoom k) f (asks line k (FreeSized name room))
-named_sized_same f line k name size is p p' w room taken =
-    named_room f k name (Some size) p p' w taken.advances.0 is taken.listed taken.same room taken.advances.1.0 taken.advances.1.1 taken.advances.2

@@ -1,23 +1,22 @@
 -- A KEEPER'S SEARCH for a run whose outer pages aren't backed, where no other actor makes a step: which runs failed in it, of which pages it made deeds, and
 -- that the text tries the same runs.
 use Rattle.std.proofs.Common.{◌≡◌, ◌≢◌, ℕ, ◌+◌, ◌*◌, ◌/◌, ◌≤◌, ◌==◌, Bool, true, false, if◌then◌else◌, List, [], ◌∷◌, ◌++◌, ◌⊎◌, inl, inr, refl, ap, sym, ◌∙◌}
-use Rattle.std.proofs.Common.{subst, arith, eqb-true, ◌<◌, nat_le, not, ◌&&◌, ◌||◌, Option, None, Some, eq-eqb}
-use Rattle.pas_core.proofs.Rights.{free_without_deed, DeedFits, no_deed}
+use Rattle.std.proofs.Common.{subst, arith, eqb-true, ◌<◌, nat_le, not, ◌&&◌, ◌||◌, Option, Some, eq-eqb}
+use Rattle.pas_core.proofs.{Rights.{free_without_deed, DeedFits, no_deed}, OneActor.deed_none}
 use Rattle.pas_same_text.proofs.Common.{IsLone, never_fails, fewer, once_lone, false≢true, eqb-false, false_from_ne_true, fun_ext, and-false, AllByRecursion}
 use Rattle.pas_same_text.proofs.Common.{IsValid, IsDirectoryOf, number_of, Directory, Profile, Word, Event, triple, triples, target, Only, Once, Always, View}
 use Rattle.pas_same_text.proofs.Common.{holds, known_deed, Agreed, events_by, Whole, part, word_after, Legal, visible, Made, Step, Look, Deed, part_of_own}
-use Rattle.pas_same_text.proofs.Common.{always_map, deed_has_page, deed_kept, deed_of, backed_of, known_is, is_with, spot_of, spotted, deeds_known, LendsNone}
-use Rattle.pas_same_text.proofs.Common.{lends_none, deed_none, legal_before, IsInRun, ReturnsDuly, DeedsRise, MayFind, IsUsablePage, IsUsableRun, MadeOf}
-use Rattle.pas_same_text.proofs.Common.{span_in, seeking, HasSpan, SoughtNone, large_of, is_usable, is_run, serves_pages, deed_word_of-positive, all_map, Run}
-use Rattle.pas_same_text.proofs.Common.{deed_in, backed_in, word_of_deed, runs, one_backed, agreed_steps, Progress, World, are_bare, raises, raises_from}
-use Rattle.pas_same_text.proofs.Common.{IsSame, HasSame, IsBetween, free_bit, page_numbers, each_of, is_none, is_same, is_free, is_empty, is_kept}
-use Rattle.pas_same_text.proofs.{StepMarks.backed_stays, FreeGrains.{free_unheld, bit_free, keeper}, KeepersRest.{bare_since, bare_events}}
-use Rattle.pas_same_text.proofs.{Flushes.visible_steps, GivenBack.each_all, SearchedPages.{run_usable, usable_run}, Pieces.has_same, RunsFound.shown}
-use Rattle.pas_same_text.proofs.RunsFound.{shown_events, shown_rest, with_deed, deeded, deeds_of, deeded_falls, deeded_events, deeds_live}
-use Rattle.pas_same_text.proofs.{RestingPages.{open_from, is_open, owned_is, unowned_by}, RaiseWalk.{below, below_all, IsOfRun, IsWalked, found_text}}
-use Rattle.pas_same_text.proofs.RaiseWalk.{none_text}
+use Rattle.pas_same_text.proofs.Common.{always_map, deed_has_page, deed_kept, deed_of, backed_of, known_is, is_with, spot_of, spotted, deeds_known, lends_none}
+use Rattle.pas_same_text.proofs.Common.{IsInRun, ReturnsDuly, DeedsRise, MayFind, IsUsableRun, MadeOf, span_in, seeking, SoughtNone, large_of, is_usable}
+use Rattle.pas_same_text.proofs.Common.{is_run, serves_pages, deed_word_of-positive, all_map, Run, deed_in, backed_in, word_of_deed, runs, one_backed}
+use Rattle.pas_same_text.proofs.Common.{agreed_steps, Progress, World, are_bare, raises, raises_from, IsSame, HasSame, IsBetween, free_bit, page_numbers}
+use Rattle.pas_same_text.proofs.{Common.{each_of, is_none, is_same, is_free, is_empty, is_kept}, StepMarks.backed_stays, FreeGrains.{free_unheld, bit_free}}
+use Rattle.pas_same_text.proofs.{FreeGrains.keeper, KeepersRest.{bare_since, bare_events}, Flushes.visible_steps, GivenBack.each_all, SearchedPages.run_usable}
+use Rattle.pas_same_text.proofs.{SearchedPages.usable_run, Pieces.has_same, RunsFound.{shown, shown_events, shown_rest, with_deed, deeded, deeds_of}}
+use Rattle.pas_same_text.proofs.{RunsFound.{deeded_falls, deeded_events, deeds_live}, RestingPages.{open_from, is_open, owned_is, unowned_by}, RaiseWalk.below}
+use Rattle.pas_same_text.proofs.RaiseWalk.{below_all, IsOfRun, IsWalked, found_text, none_text}
+use Rattle.pas_guard.specs.{Seeks.{HasSpan, SoughtRun}, Evidence.{HoldsRunWhole, OuterBackedHere, IsBad, OuterFailsHere, HasFailedOnce}}
 use Rattle.pas_large.{specs.Evidence.{AllUsable, DeedsOf}, proofs.Told.{run_was, bad_run}}
-use Rattle.pas_guard.specs.{Evidence.{HoldsRunWhole, OuterBackedHere, IsBad, OuterFailsHere, HasFailedOnce}, Seeks.SoughtRun}
 
 -- ---- runs of n + 2 pages
 -- a run of the region that was usable
@@ -55,15 +54,11 @@ module _ (f : Profile) (k heap n : ℕ) (l : Whole) (valid : IsValid f) (of : Is
         let high = deed_has_page f (triples k xs ++ l) legal (first + n + 1) (whole_deed (first + n + 1) (omega arith, omega arith)) in
         let a = (deed_has_page f (triples k xs ++ l) legal first (whole_deed first (omega arith, omega arith))).0 in (a, omega (arith, high.1))
 
-  -- a run that failed after its pages had been read as usable is one that was usable
-  outer_failed : (first : ℕ) (xs : List Made) → IsLone f k l xs → Once (OuterFailsHere (part k l) d n first) xs → IsRunOf f heap n l first
-  outer_failed first = once_lone (OuterFailsHere (part k l) d n first) (IsRunOf f heap n l first) f k l (λ m xs lone h.
-      record { of_region = whole_region xs lone.legal.1 first h.1.0; usable = run_was f k l d (n + 2) of.kind met first xs (fewer lone) h.0 })
-
   -- A run that failed in a keeper's search was a usable run of the region before it.
   failed_run : (xs : List Made) → IsLone f k l xs → (first : ℕ) → HasFailedOnce (part k l) d n first xs → IsRunOf f heap n l first
   failed_run xs lone first (inl h) = absurd (never_fails f k l d (n + 2) of.kind met first xs lone h)
-  failed_run xs lone first (inr h) = outer_failed first xs lone h
+  failed_run xs lone first (inr h) = (once_lone (OuterFailsHere (part k l) d n first) (IsRunOf f heap n l first) f k l (λ m xs lone h.
+      record { of_region = whole_region xs lone.legal.1 first h.1.0; usable = run_was f k l d (n + 2) of.kind met first xs (fewer lone) h.0 })) xs lone h
 
   -- ---- a usable run that served not had a backed outer page
   outer_backed : (xs : List Made) → Legal f (triples k xs ++ l) → Only seeking xs → (first : ℕ) → Once (OuterBackedHere (part k l) n first) xs
@@ -131,7 +126,7 @@ pub record IsSought (f : Profile) (k heap n : ℕ) (p : Progress) (w : World) (x
   pub met : MayFind (large_of heap) (part k p.list)
 
 module _ {f : Profile} {k heap n : ℕ} {p : Progress} {w : World} {xs : List Made} (s : IsSought f k heap n p w xs) where
-  abbrev large : Directory
+  abbrev pub large : Directory
   large = large_of heap
 
   abbrev mine : List ℕ → World
@@ -148,12 +143,6 @@ module _ {f : Profile} {k heap n : ℕ} {p : Progress} {w : World} {xs : List Ma
   -- ---- A PAGE THAT NOBODY HAS is empty, nobody keeps it, and no guard has it
   pub unowned_free : (page b : ℕ) → word_after p.list (Word.Deed page) ≡ 0 → b < 256 → free_bit p.list (256 * page + b) ≡ true
   unowned_free page b none small = search (arith, free_without_deed)
-
-  unowned_kept : (page : ℕ) → word_after p.list (Word.Deed page) ≡ 0 → is_kept w page ≡ false
-  unowned_kept page none = false_from_ne_true (is_kept w page) (λ kept.
-      let by = keeper f p w s.valid s.between old page kept in
-      let at = spotted f p.list s.between.legal page in
-      false≢true (sym (ap (is_with by.0) (no_deed (spot_of p.list page) (subst (DeedFits (spot_of p.list page)) none at.deed))) ∙ (sym (at.has by.0) ∙ by.1)))
 
   -- ---- deeds of such pages change no page's use
   same_use : (o : Option Directory) (qs : List ℕ) (page : ℕ) → usable_in large o (mine qs) page ≡ usable_in large o w page
@@ -174,7 +163,11 @@ module _ {f : Profile} {k heap n : ℕ} {p : Progress} {w : World} {xs : List Ma
     | inl made ↦ cc (
       shown_events _ w,
       same_use _ qs page,
-      all_true large _ _ _ (unowned_kept page made.1)
+      all_true large _ _ _ (false_from_ne_true (is_kept w page) (λ kept.
+          let by = keeper f p w s.valid s.between old page kept in
+          let at = spotted f p.list s.between.legal page in
+          false≢true (sym (ap (is_with by.0) (no_deed (spot_of p.list page) (subst (DeedFits (spot_of p.list page)) made.1 at.deed)))
+          ∙ (sym (at.has by.0) ∙ by.1))))
           (open_from f p w s.valid s.between old large page 0 (omega arith) refl (unowned_free page 0 made.1 (omega arith)))
           (each_all 256 0 (is_free w page) (λ b low high. bit_free f p w s.valid s.between old page b high (unowned_free page b made.1 high))),
       unowned_by (deed_in w.events page) (sym (owned_is f p.list w s.between.legal s.same.pages.events page) ∙ made.1),
@@ -209,7 +202,7 @@ module _ {f : Profile} {k heap n : ℕ} {p : Progress} {w : World} {xs : List Ma
     each : (r : ℕ) → Chosen r → IsRunOf f heap n p.list r × (r < end)
     all : (r : ℕ) → IsRunOf f heap n p.list r → r < end → (q : ℕ) → IsInRun r (n + 2) q → word_after mid (Word.Deed q) ≢ 0
 
-  made_by : (Chosen : ℕ → Type 0) → DeedsOf large (n + 2) Chosen xs → MadeOf large xs
+  pub made_by : (Chosen : ℕ → Type 0) → DeedsOf large (n + 2) Chosen xs → MadeOf large xs
   made_by Chosen deeds = always_map _ _ xs (λ m before h x e is zero. (h x e is zero).0) deeds
 
   -- The events of a search that made deeds alone of a directory are those deeds.
@@ -239,17 +232,13 @@ module _ {f : Profile} {k heap n : ℕ} {p : Progress} {w : World} {xs : List Ma
       }
 
   -- The search's answers agree with the keeper's view.
-  agreed : Agreed f (part k p.list) xs
+  pub agreed : Agreed f (part k p.list) xs
   agreed = agreed_steps f k p.list xs s.valid s.legal
 
   -- ---- a run serves
   module _ (first : ℕ) (found : SoughtRun f large n xs first) where
-    abbrev FoundOrFailed : ℕ → Type 0
+    abbrev pub FoundOrFailed : ℕ → Type 0
     FoundOrFailed r = (r ≡ first) ⊎ ((r < first) × HasFailedOnce (part k p.list) large n r xs)
-
-    -- A search that sought a run and found it made deeds of its directory alone.
-    pub found_made : MadeOf large xs
-    found_made = made_by FoundOrFailed (found.deeds (part k p.list) s.met agreed)
 
     run_first : IsRunOf f heap n p.list first
     run_first = record { of_region = found.of_region; usable = run_was f k p.list large (n + 2) s.of.kind s.met first xs lone found.usable }
@@ -264,9 +253,6 @@ module _ {f : Profile} {k heap n : ℕ} {p : Progress} {w : World} {xs : List Ma
         let got : HasSpan large first (first + (n + 2)) (part k p.list) (xs ++ part k p.list) = found.got.from (part k p.list) s.met agreed in
         deed_word_of-positive large (sym (got.got.deeds q (span_in first (first + (n + 2)) q here.0 here.1)) ∙ (ap (λ (v : View). known_deed v q) (sym (part_of_own k xs p.list)) ∙ none))
 
-    first_deeds : (q : ℕ) → IsInRun first (n + 2) q → word_after mid (Word.Deed q) ≢ 0
-    first_deeds q here none = got_deed q here (known_is (known_deed (part k mid) q) _ (deeds_known f mid s.legal k q) (got_deed q here) ∙ none)
-
     of_runs_found : AreOfRuns (first + 1) FoundOrFailed
     of_runs_found = record {
       deeds = found.deeds (part k p.list) s.met agreed;
@@ -279,23 +265,21 @@ module _ {f : Profile} {k heap n : ℕ} {p : Progress} {w : World} {xs : List Ma
       where
         by_place : (r : ℕ) → IsRunOf f heap n p.list r → (q : ℕ) → IsInRun r (n + 2) q → (t : Bool) → (r == first) ≡ t → ((r ≡ first → ⊥) → r < first)
             → word_after mid (Word.Deed q) ≢ 0
-        by_place r run q here true e lower = first_deeds q (subst (λ (x : ℕ). IsInRun x (n + 2) q) (eqb-true r first e) here)
+        by_place r run q here true e lower = (λ none. let here = subst (λ (x : ℕ). IsInRun x (n + 2) q) (eqb-true r first e) here in
+            got_deed q here (known_is (known_deed (part k mid) q) _ (deeds_known f mid s.legal k q) (got_deed q here) ∙ none))
         by_place r run q here false e lower = (lower_backed r (lower (eqb-false r first e)) run).deeds q here
-
-    found_bare : are_bare w first n ≡ true
-    found_bare =
-        let since = found.bare (part k p.list) s.met agreed in
-        let bare : (q : ℕ) → word_after mid _ ≡ 0 → backed_in w.events q ≡ false =
-        λ q zero. backed_told q ∙ bare_events f p.list q s.valid s.between.legal (sym (backed_stays seeking refl k xs p.list q s.kinds) ∙ zero) in
-        ap (λ (t : Bool). not t && not (backed_in w.events (first + n + 1))) (bare first (bare_since f k first (part k p.list) xs p.list s.legal since.0))
-        ∙ ap (λ (t : Bool). not t) (bare (first + n + 1) (bare_since f k (first + n + 1) (part k p.list) xs p.list s.legal since.1))
 
     -- THE TEXT raises a guard there
     pub sought_text : (j name : ℕ) → raises_from f k j name heap n (page_numbers f) w ≡ raises k name heap first n (mine made)
     sought_text j name =
         let low = found.of_region.0 in
         let high = found.of_region.1 in
-        found_text f k j name heap n w made (first + 1) (walked (first + 1) _ of_runs_found) first refl (low, omega (arith, high)) (is_run_of first run_first) found_bare
+        found_text f k j name heap n w made (first + 1) (walked (first + 1) _ of_runs_found) first refl (low, omega (arith, high)) (is_run_of first run_first)
+        (let since = found.bare (part k p.list) s.met agreed in
+        let bare : (q : ℕ) → word_after mid _ ≡ 0 → backed_in w.events q ≡ false =
+        λ q zero. backed_told q ∙ bare_events f p.list q s.valid s.between.legal (sym (backed_stays seeking refl k xs p.list q s.kinds) ∙ zero) in
+        ap (λ (t : Bool). not t && not (backed_in w.events (first + n + 1))) (bare first (bare_since f k first (part k p.list) xs p.list s.legal since.0))
+        ∙ ap (λ (t : Bool). not t) (bare (first + n + 1) (bare_since f k (first + n + 1) (part k p.list) xs p.list s.legal since.1)))
         (λ r some lt h. not_bare mid r (lower_backed r lt (run_of r some h)))
 
     -- the pages that got deeds had none before, and are of usable runs

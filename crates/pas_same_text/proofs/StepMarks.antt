@@ -1,14 +1,11 @@
 -- WHAT STEPS LEAVE OF THE WORDS, and which pages they mark with hints and offers: steps that only give back; and a search, where no other actor makes a step.
-use Rattle.pas_same_text.proofs.Common.{or_left, IsLone, fewer, once_lone, free_same, true_from_ne_false, false≢true, or_from, has_bit, page_bit-set}
-use Rattle.pas_same_text.proofs.Common.{page_bit-clear, number_of, deed_word_of, deed_word_numbered, same_word, IsPage, IsDirectoryOf, Directory, Profile, Word}
-use Rattle.pas_same_text.proofs.Common.{Event, triples, OnlyReturns, IsReturn, Once, Always, event_of, with_event, target, in_mask, free_word_at, epoch_of}
-use Rattle.pas_same_text.proofs.Common.{Stays, Gets, grain_move, held_after, holds, Kinds, kind_of, place_of, is_in, apart, Only, Taking, Backing, Unbacking}
-use Rattle.pas_same_text.proofs.Common.{Hinting, Unhinting, Offering, lending, Whole, part, word_after, Legal, visible, Made, Step, Look, TakeRight, Offer}
-use Rattle.pas_same_text.proofs.Common.{Hint, Unhint, Deed, Take, Put, Give, End, EndSized, in_apart, always_map, once_map, empty_bit, eligible_bit}
-use Rattle.pas_same_text.proofs.Common.{IsEmptyBacked, word_of_deed, word_of_backed, looked, deed_of, number_told, backed_of, free_stays, LendsNone}
-use Rattle.pas_same_text.proofs.Common.{offered_has_deed, ReadsBacked, ReadsAllFree, TakesNone, HintsEmpty, GivesDuly, backed_in, deed_in, Readings, ReadsFree}
-use Rattle.pas_same_text.proofs.{Common.{ShowsHere, GetsHere, IsReturnOf, ReturnsDuly, EventsAt, free_bit, MakesNoDeedHere, seeking}, Tests.eqb_itself}
-use Rattle.pas_same_text.proofs.RunsFound.{IsAtPage, IsShownAt, event_at}
+use Rattle.pas_same_text.proofs.Common.{or_left, IsLone, fewer, once_lone, free_same, false≢true, has_bit, page_bit-set, page_bit-clear, same_word, IsPage}
+use Rattle.pas_same_text.proofs.Common.{Directory, Profile, Word, Event, triples, OnlyReturns, IsReturn, Once, Always, event_of, with_event, target}
+use Rattle.pas_same_text.proofs.Common.{free_word_at, epoch_of, Kinds, kind_of, place_of, is_in, apart, Only, Taking, Backing, Unbacking, Hinting, Unhinting}
+use Rattle.pas_same_text.proofs.Common.{Offering, Whole, part, word_after, Legal, visible, Made, Step, Look, Offer, Hint, Unhint, Deed, in_apart, always_map}
+use Rattle.pas_same_text.proofs.Common.{once_map, empty_bit, eligible_bit, IsEmptyBacked, word_of_backed, looked, backed_of, free_stays, LendsNone, ReadsBacked}
+use Rattle.pas_same_text.proofs.Common.{ReadsAllFree, TakesNone, HintsEmpty, GivesDuly, backed_in, ReturnsDuly, EventsAt, free_bit, MakesNoDeedHere, seeking}
+use Rattle.pas_same_text.proofs.{Tests.eqb_itself, RunsFound.{IsAtPage, IsShownAt, event_at}}
 use Rattle.std.proofs.Common.{◌≡◌, ℕ, ◌/◌, ◌%◌, ◌<◌, ◌==◌, Bool, true, false, if◌then◌else◌, List, [], ◌∷◌, ◌++◌, ◌⊎◌, inl, inr, refl, ap, sym, ◌∙◌, subst}
 use Rattle.std.proofs.Common.{arith, true≢false, eqb-true, ◌≢◌, None, Some, ne_eqb}
 use Rattle.pas_steps.{specs.{Allowed.IsStepOf, Kinds.Ticking, Effects.new_value}, proofs.Past.since_once}
@@ -30,23 +27,16 @@ pub kept_over : (x : Word) (ks ls : Kinds)
     → (k : ℕ) (xs : List Made) (l : Whole) → Only ks xs → word_after (triples k xs ++ l) x ≡ word_after l x
 kept_over x ks ls step w k xs l only = over (λ n. n ≡ word_after l x) x ks ls (λ e s old other h. step e s old other ∙ h) w k xs l only refl
 
-backed_kept : (e : ℕ) (s : Step) (p old : ℕ) → is_in (Backing ∷ Unbacking ∷ []) (kind_of s) ≡ false
-    → (if same_word (target s) (Word.Backed p) then new_value e s old else old) ≡ old
-backed_kept e s p old is = search (arith, true≢false)
-
 -- where none backs a page or ends its backing, backed words stay
 pub backed_stays : (ks : Kinds) → apart ks (Backing ∷ Unbacking ∷ []) ≡ true → (k : ℕ) (xs : List Made) (l : Whole) (p : ℕ) → Only ks xs
     → word_after (triples k xs ++ l) (Word.Backed p) ≡ word_after l (Word.Backed p)
-backed_stays ks apart k xs l p only = kept_over (Word.Backed p) ks _ (λ e s old. backed_kept e s p old) apart k xs l only
-
-hints_kept : (e : ℕ) (s : Step) (p old : ℕ) → is_in (Unhinting ∷ []) (kind_of s) ≡ false → has_bit old (p % 64) ≡ true
-    → has_bit (if same_word (target s) (Word.Empty (p / 64)) then new_value e s old else old) (p % 64) ≡ true
-hints_kept e s p old is h = search (arith, page_bit-set, true≢false)
+backed_stays ks apart k xs l p only = kept_over (Word.Backed p) ks _ (λ e s old is. search (arith, true≢false)) apart k xs l only
 
 -- where none takes a hint back, hinted pages stay hinted
 pub hinted_stays : (ks : Kinds) → apart ks (Unhinting ∷ []) ≡ true → (k : ℕ) (xs : List Made) (l : Whole) (p : ℕ) → Only ks xs → empty_bit l p ≡ true
     → empty_bit (triples k xs ++ l) p ≡ true
-hinted_stays ks apart k xs l p only h = over (λ n. has_bit n (p % 64) ≡ true) _ ks _ (λ e s old other was. hints_kept e s p old other was) apart k xs l only h
+hinted_stays ks apart k xs l p only h =
+    over (λ n. has_bit n (p % 64) ≡ true) _ ks _ (λ e s old other was. search (arith, page_bit-set, true≢false)) apart k xs l only h
 
 -- ---- marks: hints and offers of a page
 abbrev pub is_mark : ℕ → Step → Bool
@@ -75,10 +65,6 @@ pub none_marked : (ks : Kinds) → apart ks (Hinting ∷ Offering ∷ []) ≡ tr
 none_marked ks w q [] only h = h
 none_marked ks w q (m ∷ xs) only (inl h) = mark_kind q m.step (in_apart ks (Hinting ∷ Offering ∷ []) (place_of (kind_of m.step)) w only.0) h
 none_marked ks w q (m ∷ xs) only (inr h) = none_marked ks w q xs only.1 h
-
--- A page marked by steps after others that mark none is marked by the later steps.
-pub marked_left : (ks : Kinds) → apart ks (Hinting ∷ Offering ∷ []) ≡ true → (q : ℕ) (ys xs : List Made) → Only ks xs → IsMarked q (ys ++ xs) → IsMarked q ys
-marked_left ks w q ys xs only h = elim (marked_parts q ys xs h) [ inl marked ↦ marked | inr later ↦ absurd (none_marked ks w q xs only later) ]
 
 return_mark : (p q : ℕ) (s : Step) → IsReturn p s → is_mark q s ≡ true → p ≡ q
 return_mark p q s h x = search (arith, false≢true, eqb-true)
@@ -254,10 +240,3 @@ module _ (f : Profile) (k : ℕ) (l : Whole) where
         backed = read_backed q xs legal.1 first keeps.1 (since_once (ReadsBacked q) (TakesNone q) xs e.backed);
         free = λ g of. read_free f k l q _ (g % 64) g xs (record { legal = legal.1; lends_none = lends.1; returns = due.1 }) (omega arith) (ap (λ (p : ℕ). Word.Free p (g / 64 % 4)) of) refl (since_once _ _ xs (e.free (g / 64 % 4) (omega arith)));
       }
-
--- the bit is that of the page's own directory
-pub own_bit : (f : Profile) (l : Whole) (d : Directory) (n q : ℕ) → Legal f l → IsDirectoryOf f d → deed_in (visible l) q ≡ Some d → eligible_bit l n q ≡ true
-    → eligible_bit l (number_of d) q ≡ true
-own_bit f l d n q legal of deed bit =
-    let word : deed_word_of d ≡ deed_word_numbered n = sym (ap word_of_deed deed) ∙ (sym (deed_of f l legal q) ∙ offered_has_deed f l legal n q bit) in
-    ap (λ (m : ℕ). eligible_bit l m q) (number_told d n of.kind word) ∙ bit

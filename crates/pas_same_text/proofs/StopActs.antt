@@ -1,24 +1,24 @@
 -- FLUSHES AND STOPS as acts: a flush leads the text to the state of the replay after it, and so does a stop, by which all local allocators go too.
+use Rattle.pas_same_text.proofs.StopSteps.{each_up, IsGivenUp, AllOfRegion, unique_of, IsMarkedBy, IsMarkedIn, AllClasses, ReadsRoom, room_earlier, all_marked}
+use Rattle.pas_same_text.proofs.{StopSteps.all_hints, FlushedLogs.{IsFlushedTo, IsEndedOn, OnlyFewer, flushed_start, flushed_all}, FreeGrains.held_still}
+use Rattle.pas_same_text.proofs.{FreeGrains.{cached_held, held_by, never_both, guards_as, still_unguarded}, RestingPages.{is_open, deed_now, word_known}}
+use Rattle.pas_same_text.proofs.{RestingPages.{word_now, IsGivenBack, open_from, covered_not_held, free_left, given_pages}, CacheLists.same_guards}
+use Rattle.pas_same_text.proofs.{CacheLists.{flushes_keep, stops_keep, same_own, same_with, same_again}, Flushes.{map_reverse, visible_steps}}
+use Rattle.pas_same_text.proofs.{GivenBack.{returns_then, has_both}, Pieces.read_open, StepMarks.{hint_marks, offer_marks, offered_of_region, epoch_stays_by}}
+use Rattle.pas_same_text.proofs.{StepMarks.{IsMarked, marked_parts}, Common.{cases_Bool, eqb-false, false≢true, or_left, or_right, reverse-append, All-head}}
+use Rattle.pas_same_text.proofs.Common.{All-tail, length_of, IsValid, IsPage, IsDirectoryOf, class_grains, IsSlotStart, deed_word_of, kind_of_class, Directory}
+use Rattle.pas_same_text.proofs.Common.{Event, Profile, Word, Run, Live, live_in, deed_in, made, triples, events_by, holds, usable_by_kind, View, Only, part}
+use Rattle.pas_same_text.proofs.Common.{visible, Legal, word_after, Made, Look, IsPartOf, runs, legal_earlier, deed_same, one_holder, freeing, Settled}
+use Rattle.pas_same_text.proofs.Common.{noted_after, Entry, EndedRun, Slots, EmptiesLog, Cached, any_covers, IsLocal, covers, releasing, Record, IsThread}
+use Rattle.pas_same_text.proofs.Common.{Progress, records_of, with_steps, with_records, with_cache as with_cached, World, each, set_log, Local, cache_of}
+use Rattle.pas_same_text.proofs.Common.{locals_of, ends, flushes, stops, is_of, IsBetween, AreBlocksUsable, free_bit, IsSame, HasSame, AreSameCaches}
+use Rattle.pas_same_text.proofs.Common.{IsSameCache, AreSameLocals, lives_in, has_number, hints_both, HasMember, class_grains_positive, same_from_deed_word}
+use Rattle.pas_same_text.{proofs.Common.{triples_append, only_both, only_within, events_append, start_of, home_of, start_at}, specs.Frees.gives_up_all}
 use Rattle.std.proofs.Common.{◌≤◌, length, ◌≡◌, ℕ, ◌+◌, ◌*◌, ◌/◌, ◌%◌, ◌<◌, ◌==◌, Bool, true, false, if◌then◌else◌, List, [], ◌∷◌, ◌++◌, map, reverse, Some}
 use Rattle.std.proofs.Common.{refl, ap, sym, ◌∙◌, subst, arith, true≢false, eqb-true, not, ◌⊎◌, inl, inr, All, eq-eqb}
 use Rattle.pas_bits.proofs.Runs.{IsMet, met}
 use Rattle.pas_machine.proofs.LiveBlocks.{live_apart, live_long}
 use Rattle.pas_cache.specs.Changes.{StopsEach}
-use Rattle.pas_same_text.proofs.{FlushedLogs.{IsFlushedTo, IsEndedOn, OnlyFewer, flushed_start, flushed_all}, FreeGrains.{held_still, cached_held, held_by}}
-use Rattle.pas_same_text.proofs.{FreeGrains.{never_both, guards_as, still_unguarded}, RestingPages.{is_open, deed_now, word_known, word_now, IsGivenBack}}
-use Rattle.pas_same_text.proofs.{RestingPages.{open_from, covered_not_held, free_left, given_pages}, CacheLists.{same_guards, flushes_keep, stops_keep}}
-use Rattle.pas_same_text.proofs.{CacheLists.{same_own, same_with, same_again}, Flushes.{map_reverse, visible_steps}, GivenBack.{returns_then, has_both}}
-use Rattle.pas_same_text.proofs.{Pieces.read_open, StepMarks.{hint_marks, offer_marks, offered_of_region, epoch_stays_by, IsMarked, marked_parts}}
-use Rattle.pas_same_text.proofs.StopSteps.{IsGivenUp, AllOfRegion, unique_of, all_up, IsMarkedBy, IsMarkedIn, AllClasses, ReadsRoom, room_earlier, all_marked}
-use Rattle.pas_same_text.proofs.{StopSteps.all_hints, Common.{cases_Bool, eqb-false, false≢true, or_left, or_right, reverse-append, All-head, All-tail}}
-use Rattle.pas_same_text.proofs.Common.{length_of, IsValid, IsPage, IsDirectoryOf, class_grains, IsSlotStart, deed_word_of, kind_of_class, Directory, Event}
-use Rattle.pas_same_text.proofs.Common.{Profile, Word, Run, Live, live_in, deed_in, made, triples, events_by, holds, usable_by_kind, View, Only, part, visible}
-use Rattle.pas_same_text.proofs.Common.{Legal, word_after, Made, Look, IsPartOf, runs, legal_earlier, deed_same, one_holder, freeing, Settled, noted_after}
-use Rattle.pas_same_text.proofs.Common.{Entry, EndedRun, Slots, EmptiesLog, Cached, any_covers, IsLocal, covers, releasing, Record, IsThread, Progress}
-use Rattle.pas_same_text.proofs.Common.{records_of, with_steps, with_records, with_cache as with_cached, World, each, set_log, Local, cache_of, locals_of, ends}
-use Rattle.pas_same_text.proofs.Common.{flushes, gives_up_all, stops, is_of, IsBetween, AreBlocksUsable, free_bit, IsSame, HasSame, AreSameCaches, IsSameCache}
-use Rattle.pas_same_text.proofs.Common.{AreSameLocals, lives_in, has_number, hints_both, HasMember, class_grains_positive, same_from_deed_word, triples_append}
-use Rattle.pas_same_text.proofs.Common.{only_both, only_within, events_append, start_of, home_of, start_at}
 
 -- ---- records
 -- the records of events come to the end, on both sides
@@ -63,10 +63,6 @@ module _ (f : Profile) (p p' : Progress) (w v : World) (pages : List ℕ) (valid
   run : Run f w.events
   run = subst (Run f) (sym events) (runs f p.list valid before.legal)
 
-  -- a block of the state after lived before
-  lived : (a : ℕ) (b : Live) → live_in (visible p'.list) a ≡ Some b → live_in (visible p.list) a ≡ Some b
-  lived a b h = ap (λ (es : List Event). live_in es a) (sym events) ∙ fewer.lives a b (ap (λ (es : List Event). live_in es a) same.events ∙ h)
-
   -- a page of which a block ended has room, and no guard has it
   ended_room : (q : ℕ) (d : Directory) → IsDirectoryOf f d → is_of v d q ≡ true → IsEndedOn w.events v.events pages q → is_open v d q ≡ true
   ended_room q d of is o =
@@ -108,36 +104,32 @@ module _ (f : Profile) (k : ℕ) (p : Progress) (w : World) (steps : List Made) 
   comes : IsFlushedTo f k h.epoch p.list w (p.caches k) p.caches h.settled steps emptied
   comes = flush_to f k p w steps c'.noted valid thread listed same legal h
 
-  cache_is : record (p.caches k) { log = []; noted = noted_after (p.caches k).noted h.settled } ≡ c'
-  cache_is = ap (λ (ns : List EndedRun). record (p.caches k) { log = []; noted = ns }) (sym h.noted_are) ∙ sym cache
-
   flush_has : HasSame f (with_steps p k steps c') emptied
   flush_has =
       let guards = guards_as p.books w emptied (same_guards w emptied (flushes_keep f k w)) same.guards in
-      assumption (guards, subst (λ (c : Cached). AreSameCaches f (with_cached p.caches k c) emptied.caches) cache_is comes.same, comes)
-
-  -- the caches have the grains that they had
-  kept_at : (j : ℕ) (t : Bool) → (j == k) ≡ t → (if t then c' else p.caches j).locals ≡ (p.caches j).locals
-  kept_at j t e = search (arith, eqb-true)
-
-  gives_back : IsGivenBack f k p.list w steps emptied
-  gives_back = record {
-    pages = comes.pages;
-    returns = comes.returns;
-    kinds = comes.kinds;
-    hints = comes.hints;
-    marks = λ q of hint. (comes.marks q of (hint_marks q steps hint)).minded;
-    rooms = λ q d of is offer.
-        ended_room f p (with_steps p k steps c') w emptied comes.pages valid before after same.pages.events flush_has usable comes.fewer
-        (λ j g. held_still f p (with_steps p k steps c') before after refl j g (λ h. ap (λ (ls : List Slots). any_covers ls g) (sym (kept_at j (j == k) refl)) ∙ h)) q d of is
-        (comes.marks q (offered_of_region f k p.list q steps legal offer) (offer_marks q steps offer));
-    guarded = λ q none. still_unguarded w emptied q (same_guards w emptied (flushes_keep f k w)) none;
-  }
+      assumption (
+        guards,
+        subst (λ (c : Cached). AreSameCaches f (with_cached p.caches k c) emptied.caches)
+            (ap (λ (ns : List EndedRun). record (p.caches k) { log = []; noted = ns }) (sym h.noted_are) ∙ sym cache) comes.same,
+        comes,
+      )
 
   -- A flush leads the text to the state of the replay after its steps, caches and records too.
   pub flush_same : IsSame f (with_records (with_steps p k steps c') (records_of (events_by k (part k p.list) steps))) emptied
   flush_same =
-      let pages = given_pages f k p.list (with_steps p k steps c') w emptied steps valid same.pages refl after flush_has gives_back in
+      let pages = given_pages f k p.list (with_steps p k steps c') w emptied steps valid same.pages refl after flush_has (record {
+        pages = comes.pages;
+        returns = comes.returns;
+        kinds = comes.kinds;
+        hints = comes.hints;
+        marks = λ q of hint. (comes.marks q of (hint_marks q steps hint)).minded;
+        rooms = λ q d of is offer.
+            ended_room f p (with_steps p k steps c') w emptied comes.pages valid before after same.pages.events flush_has usable comes.fewer
+            (λ j g. held_still f p (with_steps p k steps c') before after refl j g
+            (λ h. ap (λ (ls : List Slots). any_covers ls g) (sym (search (arith, eqb-true))) ∙ h)) q d of is
+            (comes.marks q (offered_of_region f k p.list q steps legal offer) (offer_marks q steps offer));
+        guarded = λ q none. still_unguarded w emptied q (same_guards w emptied (flushes_keep f k w)) none;
+      }) in
       let more = flush_records f k p w steps c'.noted valid thread listed same legal h in
       let records = events_recorded p.records w.records emptied.records (events_by k (part k p.list) steps) same.records more in
       let epoch = comes.epoch ∙ (same.epoch ∙ sym (epoch_stays_by freeing refl k steps p.list comes.kinds)) in
@@ -228,12 +220,9 @@ module _ (f : Profile) (k : ℕ) (p : Progress) (w : World) (flushed stopped : L
   abbrev c : Cached
   c = p.caches k
 
-  flush_legal : Legal f (triples k flushed ++ p.list)
-  flush_legal = legal_earlier f k stopped flushed p.list after.legal
-
   -- So it does before a stop.
   to : IsFlushedTo f k h.epoch p.list w c p.caches h.settled flushed vf
-  to = flush_to f k p w flushed c'.noted valid thread listed same flush_legal h
+  to = flush_to f k p w flushed c'.noted valid thread listed same (legal_earlier f k stopped flushed p.list after.legal) h
 
   abbrev own : Cached
   own = record c { log = []; noted = noted_after c.noted h.settled }
@@ -249,8 +238,8 @@ module _ (f : Profile) (k : ℕ) (p : Progress) (w : World) (flushed stopped : L
 
   -- The text gives them up.
   up : IsGivenUp f k (locals_of vf k) vf v
-  up = all_up f k vf thread.0 listed_then (unique_of c.locals (locals_of vf k) own_same.locals (before.rest.working k thread).locals.apart.one_each)
-      (all_of_region f (part k p.list) c.locals (locals_of vf k) own_same.locals known)
+  up = each_up f k (locals_of vf k) vf thread.0 listed_then refl (unique_of c.locals (locals_of vf k) own_same.locals
+      (before.rest.working k thread).locals.apart.one_each) (all_of_region f (part k p.list) c.locals (locals_of vf k) own_same.locals known)
 
   -- ---- events and caches
   events : v.events ≡ visible p'.list
@@ -260,14 +249,12 @@ module _ (f : Profile) (k : ℕ) (p : Progress) (w : World) (flushed stopped : L
       ∙ (ap (λ (es : List Event). es ++ visible (triples k flushed ++ p.list)) (sym (silent (part k (triples k flushed ++ p.list))))
       ∙ (sym (visible_steps k stopped (triples k flushed ++ p.list)) ∙ ap visible (triples_append k stopped flushed p.list))))
 
-  new_same : IsSameCache c' (record (cache_of vf k) { locals = [] })
-  new_same = rw cache (record { locals = tt; log = own_same.log; noted = own_same.noted ∙ sym h.noted_are; idle_since = own_same.idle_since })
-
   has : HasSame f p' v
   has =
       let live = up.live ∙ (to.live ∙ ap lives_in (sym up.events)) in
       let caches = same_again f p.caches v.caches k own c'
-      (rw up.caches (same_with f (with_cached p.caches k own) vf.caches k c' (record (cache_of vf k) { locals = [] }) thread listed_then to.same new_same)) in
+      (rw up.caches (same_with f (with_cached p.caches k own) vf.caches k c' (record (cache_of vf k) { locals = [] }) thread listed_then to.same
+      (rw cache (record { locals = tt; log = own_same.log; noted = own_same.noted ∙ sym h.noted_are; idle_since = own_same.idle_since })))) in
       assumption (events, live, caches, guards_as p.books w v (same_guards w v (stops_keep f k w)) same.guards)
 
   -- ---- grains that an actor holds then
@@ -291,7 +278,8 @@ module _ (f : Profile) (k : ℕ) (p : Progress) (w : World) (flushed stopped : L
       let held : holds (part k p.list) g ≡ true = cached_held f p before k g thread (in_cache g covered) in
       free_left f p'.list valid after.legal g
       (λ j now. let is_own : j ≡ k = eqb-true j k (one_holder f p.list valid before.legal j k g (held_before j g now) held) in (search (arith, held_by, never_both)))
-      (λ a b lives of_it. covered_not_held f _ valid before.legal g a b (lived f p p' w v to.pages valid before after same.pages.events has usable fewer held_before a b lives) of_it k held)
+      (λ a b lives of_it. covered_not_held f _ valid before.legal g a b (ap (λ (es : List Event). live_in es a) (sym same.pages.events)
+      ∙ fewer.lives a b (ap (λ (es : List Event). live_in es a) has.events ∙ lives)) of_it k held)
 
   marked_room : (q : ℕ) (d : Directory) → IsDirectoryOf f d → is_of v d q ≡ true → (o : IsOneOf f (part k p.list) q stopped c.locals)
       → HasMember o.own.starts ⊎ ReadsRoom q (home_of o.own) stopped → is_open v d q ≡ true
@@ -320,20 +308,13 @@ module _ (f : Profile) (k : ℕ) (p : Progress) (w : World) (flushed stopped : L
     guarded = λ q none. still_unguarded w v q (same_guards w v (stops_keep f k w)) none;
   }
 
-  -- The stop itself makes no event.
-  shown : events_by k (part k p.list) (stopped ++ flushed) ≡ events_by k (part k p.list) flushed
-  shown = events_append k stopped flushed (part k p.list) ∙ ap (λ (es : List Event). es ++ events_by k (part k p.list) flushed) (silent _)
-
-  all_records : v.records ≡ map Record.Event (events_by k (part k p.list) (stopped ++ flushed)) ++ w.records
-  all_records =
-      up.records
-      ∙ (flush_records f k p w flushed c'.noted valid thread listed same flush_legal h
-      ∙ ap (λ (es : List Event). map Record.Event es ++ w.records) (sym shown))
-
   -- A flush and then a stop of all local allocators lead the text to the replay's state.
   pub stop_same : IsSame f (with_records p' (records_of (events_by k (part k p.list) (stopped ++ flushed)))) (stops f k w)
   stop_same =
       let pages = given_pages f k p.list p' w v (stopped ++ flushed) valid same.pages refl after has given in
-      let records = events_recorded p.records w.records v.records (events_by k (part k p.list) (stopped ++ flushed)) same.records all_records in
+      let records = events_recorded p.records w.records v.records (events_by k (part k p.list) (stopped ++ flushed)) same.records (up.records
+      ∙ (flush_records f k p w flushed c'.noted valid thread listed same (legal_earlier f k stopped flushed p.list after.legal) h
+      ∙ ap (λ (es : List Event). map Record.Event es ++ w.records)
+      (sym (events_append k stopped flushed (part k p.list) ∙ ap (λ (es : List Event). es ++ events_by k (part k p.list) flushed) (silent _))))) in
       let epoch = up.epoch ∙ (to.epoch ∙ (same.epoch ∙ sym (epoch_stays_by freeing refl k (stopped ++ flushed) p.list all_kinds))) in
       assumption (pages, records, epoch, up.names ∙ (to.names ∙ same.names), up.read ∙ (to.read ∙ same.read), has)

@@ -1,19 +1,18 @@
 -- WHERE LOCAL ALLOCATORS GO: in the text, their slots come back to their pages; and the steps by which they are stopped, the pages that these mark, what a hint rests
 -- on, and why a page is offered.
 use Rattle.std.proofs.Common.{◌≡◌, ℕ, ◌+◌, ◌-◌, ◌≤◌, ◌==◌, Bool, true, false, ◌&&◌, ◌||◌, cond, List, [], ◌∷◌, ◌++◌, length, map, refl, ap, sym, ◌∙◌, subst}
-use Rattle.std.proofs.Common.{arith, eq-eqb, eqb-true, zero, suc, ◌/◌, ◌%◌, ◌<◌, ◌⊎◌, inl, inr, MatchBool, true≢false}
+use Rattle.std.proofs.Common.{arith, eq-eqb, eqb-true, zero, suc, ◌/◌, ◌%◌, ◌<◌, ◌⊎◌, inl, inr, MatchBool}
 use Rattle.pas_steps.{proofs.Past.once_earlier, specs.Kinds.Parking}
 use Rattle.pas_cache.{specs.{Locals.{HasOneEach, is_for as is_for_slots}, Changes.StopsAll}, proofs.Resting.counted}
 use Rattle.pas_same_text.{specs.State.with_cache, proofs.CacheLists.{all_locals, own_with, many_with, with_own, for_same, cached_any, any_cached}}
 use Rattle.pas_same_text.proofs.{GivenBack.{Returns, OnlyHints, minded_last, all_only_hints, returns_nothing, returns_then}, LowerActs.back_hints}
 use Rattle.pas_same_text.proofs.{StepMarks.{IsMarked, marked_parts, none_marked, returns_marked, hints_of}, Common.{or_right, cases_eq, list_any-append}}
-use Rattle.pas_same_text.proofs.Common.{sum_by-cons, list_any, count_by, has_bit, HasMember, IsClass, IsPage, Profile, Directory, Word, same_truth, once_later}
-use Rattle.pas_same_text.proofs.Common.{once_map, Slots, Local, Cache, World, each, cache_in, cache_of, locals_of, set_locals, is_for, others, gives_up}
-use Rattle.pas_same_text.proofs.Common.{gives_up_all, AreSameLocals, hints_both, Mask4, triples, Whole, word_after, Legal, Once, Always, usable_by_kind, Kinds}
-use Rattle.pas_same_text.proofs.Common.{Only, apart, Taking, LookFree, Putting, Made, Look, free_stays, LeaveSteps, BackSteps, words, looks, HintsEmpty}
-use Rattle.pas_same_text.proofs.Common.{leave_due, looks_only, leave_returns, return_returns, puts_kinds, start_of, home_of, StopStepsAt, LeavesWhere}
-use Rattle.pas_same_text.proofs.Common.{start_below, Park, made}
-use Rattle.pas_rights.specs.{Leaves.{EndsLeave, ReoffersWhere}, Looks.{HasUsable, HasNoUsable}}
+use Rattle.pas_same_text.proofs.Common.{list_any, count_by, has_bit, HasMember, IsClass, IsPage, Profile, Directory, Word, same_truth, once_later, once_map}
+use Rattle.pas_same_text.proofs.Common.{Slots, Local, Cache, World, each, cache_in, cache_of, locals_of, set_locals, is_for, others, gives_up, AreSameLocals}
+use Rattle.pas_same_text.proofs.Common.{hints_both, Mask4, triples, Whole, word_after, Legal, Once, Always, usable_by_kind, Kinds, Only, apart, Taking}
+use Rattle.pas_same_text.proofs.Common.{LookFree, Putting, Made, Look, free_stays, LeaveSteps, BackSteps, words, looks, HintsEmpty, leave_due, looks_only}
+use Rattle.pas_same_text.proofs.Common.{leave_returns, return_returns, puts_kinds, start_of, home_of, StopStepsAt, LeavesWhere, start_below, Park, made}
+use Rattle.pas_rights.specs.{Leaves.EndsLeave, Looks.{HasUsable, HasNoUsable}}
 use Rattle.pas_segregated.specs.Stops.{AreGrains}
 
 -- ---- one local allocator of a heap and class
@@ -117,7 +116,7 @@ abbrev pub AllOfRegion : Profile → List Local → Type 0
 AllOfRegion f [] = Unit {0}
 AllOfRegion f (l ∷ ls) = IsPage f l.page × AllOfRegion f ls
 
-each_up : (f : Profile) (k : ℕ) (ls : List Local) (w : World) → 1 ≤ k → k ≤ length w.caches → locals_of w k ≡ ls → AreUnique ls → AllOfRegion f ls
+pub each_up : (f : Profile) (k : ℕ) (ls : List Local) (w : World) → 1 ≤ k → k ≤ length w.caches → locals_of w k ≡ ls → AreUnique ls → AllOfRegion f ls
     → IsGivenUp f k ls w (each (gives_up k) ls w)
 each_up f k [] w some few is unique pages =
     let caches = sym (ap (λ (xs : List Local). with_cache w.caches k (record (cache_of w k) { locals = xs })) (sym is) ∙ with_own w.caches k) in
@@ -128,11 +127,6 @@ each_up f k (l ∷ ls) w some few is unique pages =
     let many : k ≤ length v.caches = subst (λ (n : ℕ). k ≤ n) (cc
     ((only f k l ls w is unique pages.0).caches, many_with w.caches k (record (cache_of w k) { locals = others l.heap l.class (locals_of w k) }))) few in
     then_up f k l ls w is unique pages.0 some few _ (each_up f k ls v some many (ap (λ (c : Cache). c.locals) own) unique.1 pages.1)
-
--- all of them
-pub all_up : (f : Profile) (k : ℕ) (w : World) → 1 ≤ k → k ≤ length w.caches → AreUnique (locals_of w k) → AllOfRegion f (locals_of w k)
-    → IsGivenUp f k (locals_of w k) w (gives_up_all k w)
-all_up f k w some few unique pages = each_up f k (locals_of w k) w some few refl unique pages
 
 -- ==== The steps by which local allocators are stopped: which pages they mark, what a hint rests on, and why a page is offered.
 -- ---- a grain that blocks of the directory may cover was read as free
@@ -168,28 +162,19 @@ look_at page answers (suc n) word lt = elim (cases_eq word n) [
   | inr ne ↦ inr (look_at page answers n word (omega (arith, lt, ne)))
 ]
 
-looks_room : (page : ℕ) (d : Directory) (free : Mask4) → HasUsable d free → ReadsRoom page d (looks page (words free) 4)
-looks_room page d free u = search (arith, once_map, look_at)
-
 -- ---- a leave: a page is offered only after a grain was read so
 looks_offer_none : (page q : ℕ) (answers : ℕ → ℕ) → IsMarked q (looks page answers 4) → ⊥
 looks_offer_none page q answers h = none_marked (LookFree ∷ []) refl q (looks page answers 4) (looks_only page answers 4) h
 
--- a page that was offered again and marked then has room
-reoffered : (usable : Bool) (page q : ℕ) (d : Directory) (free : Mask4) (steps : List Made) → MatchBool usable (HasUsable d free) (HasNoUsable d free)
-    → ReoffersWhere usable page d steps → IsMarked q steps → HasUsable d free
-reoffered true page q d free steps some h marked = some
-reoffered false page q d free steps none h marked = absurd (subst (IsMarked q) h marked)
-
 end_room : (usable all_free : Bool) (page q : ℕ) (d : Directory) (free : Mask4) (after : List Made) → MatchBool usable (HasUsable d free) (HasNoUsable d free)
     → EndsLeave usable page d all_free after → IsMarked q after → ReadsRoom page d (after ++ looks page (words free) 4)
-end_room true all_free page q d free after u h marked = room_later page d after (looks page (words free) 4) (looks_room page d free u)
+end_room true all_free page q d free after u h marked = room_later page d after (looks page (words free) 4) (search (arith, once_map, look_at))
 end_room false all_free page q d free after none h marked =
     let park : List Made = made (Park page) h.parked ∷ [] in
     let later : List Made = looks page (words h.later) 4 in
     elim (marked_parts q h.after (later ++ park) (subst (IsMarked q) h.steps_are marked)) [
       | inl first ↦
-          let room = looks_room page d h.later (reoffered h.usable page q d h.later h.after h.usable_is h.reoffers first) in
+          let room : ReadsRoom page d (looks page (words h.later) 4) = search (arith, once_map, look_at) in
           let whole = room_later page d h.after (later ++ park) (room_earlier page d later park room) in
           room_earlier page d after (looks page (words free) 4) (subst (ReadsRoom page d) (sym h.steps_are) whole)
       | inr rest ↦ elim (marked_parts q later park rest) [
@@ -217,14 +202,14 @@ left_marked s true q steps h marked =
     record { page = same; room = inr (subst (λ (p : ℕ). ReadsRoom p (home_of s) steps) same (leave_room s.page q (home_of s) steps h marked)) }
 left_marked s false q steps h marked = absurd (subst (IsMarked q) h marked)
 
-has_member : (s : Slots) (mask : Mask4) → IsClass s.class → AreGrains s mask → HasMember mask → HasMember s.starts
-has_member s mask is grains m = let below = start_below s.class m.0 is in (start_of s.class m.0, omega (arith, below.0, m.1), sym (grains m.0 m.1) ∙ m.2)
-
 back_marked : (s : Slots) (mask : Mask4) (q : ℕ) (steps : List Made) → IsClass s.class → AreGrains s mask → BackSteps s.page (home_of s) mask steps
     → IsMarked q steps → IsMarkedBy s q steps
 back_marked s mask q steps is grains (inl h) marked = absurd (subst (IsMarked q) h.1 marked)
 back_marked s mask q steps is grains (inr h) marked = elim (marked_parts q h.2 h.1 (subst (IsMarked q) h.5 marked)) [
-  | inl first ↦ record { page = returns_marked s.page q h.2 (return_returns s.page (home_of s) h.2 h.4) first; room = inl (has_member s mask is grains h.0) }
+  | inl first ↦ record {
+    page = returns_marked s.page q h.2 (return_returns s.page (home_of s) h.2 h.4) first;
+    room = inl (let below = start_below s.class h.0.0 is in (start_of s.class h.0.0, omega (arith, below.0, h.0.1), sym (grains h.0.0 h.0.1) ∙ h.0.2));
+  }
   | inr later ↦ absurd (none_marked (Putting ∷ []) refl q h.1 (puts_kinds s.page mask 4 h.1 h.3) later)
 ]
 

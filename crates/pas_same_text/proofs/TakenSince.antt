@@ -1,17 +1,17 @@
 -- THE SLOTS that a search took of a shared page are the lowest free one and those behind it without a break, as it was before the search.
 use Rattle.std.proofs.Common.{◌||◌, ◌≡◌, ℕ, ◌+◌, ◌*◌, ◌/◌, ◌%◌, ◌<◌, List, ◌++◌, refl, ap, sym, ◌∙◌, arith, ◌≢◌, zero, suc, ◌≤◌, ◌==◌, Bool, true, false, ◌&&◌}
 use Rattle.std.proofs.Common.{if◌then◌else◌, [], ◌∷◌, IsTrue, ◌↔◌, inl, inr, subst, append_assoc, true≢false, eq-eqb, eqb-true, drop, ne_eqb, lt-ltb}
-use Rattle.pas_profile.specs.Classes.{usable_grains, is_usable}
+use Rattle.pas_profile.specs.Classes.{usable_grains}
 use Rattle.pas_search.{specs.Choices.TookChosen, proofs.LoneSteps.shown_same}
 use Rattle.pas_partial.specs.Rows.{IsInRow, rows}
 use Rattle.pas_segregated.specs.Takes.{slot_within, TookSlots, takes_after, takes_since}
 use Rattle.pas_same_text.proofs.Common.{free_same, or-false, has_bit, is_set, Mask4, class_grains, IsSlotStart, Profile, Word, triples, free_word_at, Readings}
-use Rattle.pas_same_text.proofs.Common.{Allowed, made, target, in_mask, kind_of, is_in, lending, Once, Always, Whole, word_after, Legal, part, Made, Step}
-use Rattle.pas_same_text.proofs.Common.{same_truth, part_of_own, free_of_page, LendsNone, lends_none, AreSearch, searching, IsReturnOf, ReturnsDuly, KeepsMarks}
-use Rattle.pas_same_text.proofs.Common.{IsFreeSlot, IsLowestRow, free_bit, false≢true, cases_eq, or_cases, false_from_ne_true, none_of_zero, number_of, View}
-use Rattle.pas_same_text.proofs.Common.{Gets, Stays, grain_move, held_after, holds, has_right, Deed, Take, TakeRight, Offer, Park, Unpark, is_with, spotted}
-use Rattle.pas_same_text.proofs.{Common.{takes, word_take, words}, Tests.{and_first, and_second}}
-use Rattle.pas_steps.specs.Views.{Way, Rests, ByDeed, FromOffer, FromParked, ToParked, way, had_after}
+use Rattle.pas_same_text.proofs.Common.{Allowed, made, target, kind_of, is_in, Once, Always, Whole, word_after, Legal, part, Made, Step, part_of_own}
+use Rattle.pas_same_text.proofs.Common.{free_of_page, LendsNone, lends_none, AreSearch, searching, IsReturnOf, ReturnsDuly, KeepsMarks, IsFreeSlot, IsLowestRow}
+use Rattle.pas_same_text.proofs.Common.{free_bit, false≢true, cases_eq, false_from_ne_true, none_of_zero, number_of, View, holds, has_right, Deed, Take}
+use Rattle.pas_same_text.proofs.{Common.{TakeRight, Offer, Park, Unpark, is_with, spotted, takes, word_take, words}, Tests.{and_first, and_second}}
+use Rattle.pas_steps.specs.{Effects.in_mask, Kinds.lending, Views.{Gets, Stays, grain_move, held_after, Way, Rests, ByDeed, FromOffer, FromParked, ToParked}}
+use Rattle.pas_steps.specs.Views.{way, had_after}
 use Rattle.pas_core.proofs.Rights.{Spot, Suits, IsSpotted, step_suits}
 
 -- ---- the same readings show the same slots and rows
@@ -20,20 +20,6 @@ free_slot_as class r fair same s free = let end = slot_within class s free.0 in 
 
 row_as : (Good Fair : ℕ → Type 0) (first step n s : ℕ) → ((x : ℕ) → Good x → Fair x) → IsInRow Good first step n s → IsInRow Fair first step n s
 row_as Good Fair first step n s fair row = (row.0, row.1, row.2, λ j le. fair (first + j * step) (row.3 j le))
-
-lowest_row_as : (class : ℕ) (r fair : Readings) (starts : Mask4) → ((b : ℕ) → b < 256 → r b ≡ fair b) → IsLowestRow class r starts
-    → IsLowestRow class fair starts
-lowest_row_as class r fair starts same row =
-    let there = free_slot_as class r fair same in let back = free_slot_as class fair r (λ b small. sym (same b small)) in
-    record {
-      first = row.first;
-      free = there row.first row.free;
-      lowest = λ s lt free. row.lowest s lt (back s free);
-      are = λ s. (
-        λ set. row_as (IsFreeSlot class r) (IsFreeSlot class fair) row.first (class_grains class) 4 s there ((row.are s).0 set),
-        λ here. (row.are s).1 (row_as (IsFreeSlot class fair) (IsFreeSlot class r) row.first (class_grains class) 4 s back here),
-      );
-    }
 
 module _ (f : Profile) (k : ℕ) (l : Whole) (class page : ℕ) (searched : List Made) (starts : Mask4) (legal : Legal f (triples k searched ++ l))
     (searches : AreSearch searched) (took : TookChosen (rows class) page searched starts) where
@@ -44,7 +30,17 @@ module _ (f : Profile) (k : ℕ) (l : Whole) (class page : ℕ) (searched : List
 
   -- What a search took of a shared page is the lowest row of slots by the grains free before the search.
   pub shared_row : IsLowestRow class (free_of_page l page) starts
-  shared_row = lowest_row_as class took.readings (free_of_page l page) starts reading_is took.chosen
+  shared_row = let fair = free_of_page l page in
+      let there = free_slot_as class took.readings fair reading_is in let back = free_slot_as class fair took.readings (λ b small. sym (reading_is b small)) in
+      record {
+        first = took.chosen.first;
+        free = there took.chosen.first took.chosen.free;
+        lowest = λ s lt free. took.chosen.lowest s lt (back s free);
+        are = λ s. (
+          λ set. row_as (IsFreeSlot class took.readings) (IsFreeSlot class fair) took.chosen.first (class_grains class) 4 s there ((took.chosen.are s).0 set),
+          λ here. (took.chosen.are s).1 (row_as (IsFreeSlot class fair) (IsFreeSlot class took.readings) took.chosen.first (class_grains class) 4 s back here),
+        );
+      }
 
 -- ==== WHAT A SEARCH TOOK of a page that it keeps: since it got the page's right, if it holds any of its grains. So its takes since then read just the grains as free that
 -- were free before the search.
@@ -191,24 +187,22 @@ takes_below page masks answers (suc n) g le = search (arith, ne_eqb, takes_below
 -- ---- THE SLOTS that a search took of an exclusive page are all that were free before it
 module _ (f : Profile) (k : ℕ) (l : Whole) (class page : ℕ) (searched : List Made) (starts : Mask4) (legal : Legal f (triples k searched ++ l))
     (searches : AreSearch searched) (marks : Always (KeepsMarks page) searched) (took : TookSlots class page searched starts) where
-  answer_is : (b : ℕ) → b < 256 → is_usable class b ≡ true → is_set took.answers b ≡ free_of_page l page b
-  answer_is b small usable =
-      let g : ℕ = page * 256 + b in
+  slot_answer : (s b : ℕ) → IsSlotStart class s → b < s + class_grains class → is_set took.answers b ≡ free_of_page l page b
+  slot_answer s b slot high =
+      let within = slot.within in let end = slot_within class s slot in
+      let small : b < 256 = (omega (arith, end, high)) in
+      let usable = lt-ltb b (usable_grains class) (omega (arith, within, high)) in let g : ℕ = page * 256 + b in
       let of : g / 256 ≡ page = omega (arith, small) in
       let at_word : g / 64 % 4 ≡ b / 64 = omega (arith, small) in
       let at_bit : b % 64 ≡ g % 64 = omega arith in
       let word = ap (λ (u : ℕ). Word.Free page u) (sym at_word) ∙ ap (λ (q : ℕ). Word.Free q (g / 64 % 4)) (sym of) in
-      let some : words took.usable (b / 64) ≢ 0 = λ z. false≢true (sym (none_of_zero (b % 64)) ∙ (ap (λ (n : ℕ). has_bit n (b % 64)) (sym z) ∙ (took.usable_are b small ∙ usable))) in
+      let some : words took.usable (b / 64) ≢ 0 =
+      λ z. false≢true (sym (none_of_zero (b % 64)) ∙ (ap (λ (n : ℕ). has_bit n (b % 64)) (sym z) ∙ (took.usable_are b small ∙ usable))) in
       let split = takes_split page (words took.usable) (words took.answers) 4 (b / 64) (omega (arith, small)) some in
       let read : has_bit (words took.answers (b / 64)) (g % 64) ≡ free_bit l g =
       take_read f k l page g of (b / 64) _ _ _ searched legal (lends_none searching refl searched searches.kinds) searches.returns marks word
       (takes_below page (words took.usable) (words took.answers) (b / 64) g (omega (arith, at_word))) split.0 (took.takes ∙ split.1) in
       ap (has_bit (words took.answers (b / 64))) at_bit ∙ (read ∙ ap (has_bit (word_after l (free_word_at g))) (sym at_bit))
-
-  slot_answer : (s b : ℕ) → IsSlotStart class s → b < s + class_grains class → is_set took.answers b ≡ free_of_page l page b
-  slot_answer s b slot high =
-      let within = slot.within in let end = slot_within class s slot in
-      answer_is b (omega (arith, end, high)) (lt-ltb b (usable_grains class) (omega (arith, within, high)))
 
   -- What a search took of an exclusive page are its slots that were free before the search.
   pub exclusive_free : (s : ℕ) → IsTrue (is_set starts s) ↔ IsFreeSlot class (free_of_page l page) s

@@ -139,17 +139,13 @@ module _ (f : Profile) (p : Progress) (w : World) (valid : IsValid f) (between :
         let at : i.0 * step ≡ s = omega (arith, eqb-true (0 + i.0 * step) s i.2) in
         (all s).1 (subst IsFree at (free_at i.0 i.1 (ap test at ∙ o.0)))
 
-    all_from : (s : ℕ) → is_set starts s ≡ true → has_number (free_slots w class page) s ≡ true
-    all_from s set =
-        let free = (all s).0 set in
+    -- All slots that a search took of an exclusive page are those that the text takes of it.
+    pub all_taken : (s : ℕ) → has_number (slots_for false w class page) s ≡ is_set starts s
+    all_taken s = same_truth (has_number (free_slots w class page) s) (is_set starts s) (all_to s) (λ set. let free = (all s).0 set in
         let i = slot_index f p w valid between same class is s free.0 in
         let at : 0 + i.0 * step ≡ s = omega (arith, i.2) in
         has_filtered test (spaced 0 step count) s (tested s free) (ap (has_number (spaced 0 step count)) (sym at)
-        ∙ in_spaced (λ m. m == (0 + i.0 * step)) count 0 step i.0 i.1 (eq-eqb (0 + i.0 * step) (0 + i.0 * step) refl))
-
-    -- All slots that a search took of an exclusive page are those that the text takes of it.
-    pub all_taken : (s : ℕ) → has_number (slots_for false w class page) s ≡ is_set starts s
-    all_taken s = same_truth (has_number (free_slots w class page) s) (is_set starts s) (all_to s) (all_from s)
+        ∙ in_spaced (λ m. m == (0 + i.0 * step)) count 0 step i.0 i.1 (eq-eqb (0 + i.0 * step) (0 + i.0 * step) refl)))
 
   -- ---- of a shared page
   module _ (row : IsLowestRow class (free_of_page p.list page) starts) where
@@ -202,15 +198,12 @@ module _ (f : Profile) (p : Progress) (w : World) (valid : IsValid f) (between :
         let o = in_row test step some 4 left row.first s h in
         (row.are s).1 (o.0, o.1, o.3, λ j le. rw behind (free_at (index + j) (omega (arith, le, o.2, below)) (ap test (sym (behind j)) ∙ o.4 j le)))
 
-    row_of : (s : ℕ) → is_set starts s ≡ true → has_number row_left s ≡ true
-    row_of s set =
-        let o = (row.are s).0 set in
-        let this : IsFree s = subst IsFree (sym o.2) (o.3 o.0 (omega arith)) in
-        ap (has_number row_left) o.2 ∙ row_has test step some 4 left row.first o.0 o.1 (index_of o.0 s o.2 this) (λ j le. tested _ (o.3 j le))
-
     -- The row of slots that a search took of a shared page is that which the text takes of it.
     pub row_taken : (s : ℕ) → has_number (slots_for true w class page) s ≡ is_set starts s
-    row_taken s = ap (λ (xs : List ℕ). has_number xs s) slots_are ∙ same_truth (has_number row_left s) (is_set starts s) (row_to s) (row_of s)
+    row_taken s = ap (λ (xs : List ℕ). has_number xs s) slots_are
+        ∙ same_truth (has_number row_left s) (is_set starts s) (row_to s) (λ set. let o = (row.are s).0 set in
+        let this : IsFree s = subst IsFree (sym o.2) (o.3 o.0 (omega arith)) in
+        ap (has_number row_left) o.2 ∙ row_has test step some 4 left row.first o.0 o.1 (index_of o.0 s o.2 this) (λ j le. tested _ (o.3 j le)))
 
   -- the slots rise
   pub slots_rise : (shared : Bool) → IsRising (slots_for shared w class page)

@@ -1,19 +1,12 @@
 -- Tests on lists.
 use Rattle.std.proofs.Common.{◌≡◌, ℕ, ◌==◌, Bool, true, false, not, ◌&&◌, ◌||◌, List, [], ◌∷◌, ◌⊎◌, inl, inr, refl, ap, sym, ◌∙◌, arith, ◌+◌, ◌*◌, ◌/◌, ◌<◌}
 use Rattle.std.proofs.Common.{eq-eqb, eqb-true}
-use Rattle.pas_same_text.proofs.Common.{false≢true, or_cases, or_left, or_right, nat_tests, or-false, list_any, filter, has_number}
+use Rattle.pas_same_text.proofs.Common.{false≢true, or_cases, or_left, or_right, list_any, filter, has_number}
 
 -- ---- tests
-pub or_none : (x : Bool) {t : Bool} → (x || false) ≡ t → x ≡ t
-or_none x h = sym (or-false x) ∙ h
-
 -- A number equals itself by the test.
 pub eqb_itself : (n : ℕ) → (n == n) ≡ true
 eqb_itself n = eq-eqb n n refl
-
--- Two numbers are equal by the test in either order.
-pub eqb_turned : (x y : ℕ) → (x == y) ≡ (y == x)
-eqb_turned x y = grind (arith, nat_tests)
 
 -- grain b of a page is on it
 pub on_page : (page b : ℕ) → b < 256 → (256 * page + b) / 256 ≡ page

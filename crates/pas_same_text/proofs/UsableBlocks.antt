@@ -8,10 +8,9 @@ use Rattle.pas_same_text.proofs.Common.{having, IsFreed, IsFreedBy, IsStopped, I
 use Rattle.pas_same_text.proofs.Common.{none-some, in_run, run_of, grain_of, length_of, IsKind, deed_word_of, IsValid, same_from_deed_word, all_map, triples}
 use Rattle.pas_same_text.proofs.Common.{events_by, View, known_deed, usable_by_kind, Whole, part, word_after, visible, Legal, Made, triples_append, no_events}
 use Rattle.pas_same_text.proofs.Common.{events_append, part_of_own, IsPartOf, word_of_deed, deed_of, directory_is_of, runs, legal_before, legal_earlier}
-use Rattle.pas_same_text.proofs.Common.{EmptiesLog, EmptiesFull, Cached, wanted_for, unbacks_in, SweepSteps, sweeping, Guard, Tried, IsTried, after_trying}
-use Rattle.pas_same_text.proofs.Common.{AnswersTried, AnswersGuarded}
-use Rattle.pas_answers.{specs.{Answers.{Having, IsGiven, RefusalEnds, RequestEnds, IsAnswered, entry_with}, Guarding.TryEnds}, proofs.Reached.tried_on}
-use Rattle.pas_answers.proofs.Reached.{pieces_back}
+use Rattle.pas_same_text.proofs.Common.{EmptiesLog, EmptiesFull, Cached, wanted_for, unbacks_in, SweepSteps, sweeping, Guard, after_trying, AnswersTried}
+use Rattle.pas_same_text.proofs.Common.{AnswersGuarded}
+use Rattle.pas_answers.{specs.{Answers.{Having, IsGiven, RequestEnds, IsAnswered, entry_with}, Guarding.TryEnds}, proofs.Reached.{tried_on, pieces_back}}
 use Rattle.pas_profile.proofs.Sizes.{class_suits, class_known}
 use Rattle.pas_machine.proofs.LiveBlocks.{all_borne}
 use Rattle.pas_cache.specs.Serves.{Wanted, IsPlaced, IsPreparing, IsDeedOf}
@@ -107,9 +106,6 @@ placed_usable f shared size align route block g e placed room of = search (arith
 kind_known : (f : Profile) (shared : Bool) (size align : ℕ) (route : Route) → route_in f size align ≡ route → IsKind (kind_of_route shared route)
 kind_known f shared size align route e = search (arith, class_known, class_suits)
 
-refusal_gives : (route : Route) (d : Directory) (es : List Event) → RefusalEnds route d es → AreNoGives es
-refusal_gives route d es h = search (arith, all_map, deed_none)
-
 module _ (f : Profile) (k heap size align : ℕ) (l : Whole) (steps : List Made) (valid : IsValid f) (legal : Legal f (triples k steps ++ l))
     (usable : AreBlocksUsable (visible l)) where
   abbrev wanted : Wanted
@@ -133,7 +129,7 @@ module _ (f : Profile) (k heap size align : ℕ) (l : Whole) (steps : List Made)
       let run : Run f (Event.Give k block ∷ (given.before ++ visible l)) = subst (Run f) shown (runs f whole valid legal) in
       subst AreBlocksUsable (sym shown)
       (next_usable f _ _ run (give_usable block given) (all_usable f given.before (visible l) run.1 (all_map _ IsNoGive given.before (preparing_none _) given.prepared) usable))
-  by_answer (Err room) ends = steps_usable f k steps l valid legal (refusal_gives wanted.route wanted.directory (events_by k (part k l) steps) ends) usable
+  by_answer (Err room) ends = steps_usable f k steps l valid legal (search (arith, all_map, deed_none)) usable
 
 -- ---- a reallocation
 
@@ -183,16 +179,6 @@ raise_usable : (f : Profile) (keeper : ℕ) (r : Request) (block : Option Block)
 raise_usable f keeper r None steps l valid legal ends usable = steps_usable f _ steps l valid legal (all_map _ _ _ (deed_none (wanted_by f r).directory) ends) usable
 raise_usable f keeper r (Some block) steps l valid legal given usable = by_answer f keeper r.heap r.size r.align l steps valid legal usable (Ok block) given
 
-tried_usable : (f : Profile) (keeper : ℕ) (r : Request) (l : Whole) (guards : List Guard) (t : Tried) → IsValid f → Legal f (triples keeper t.steps ++ l)
-    → IsTried f keeper r (part keeper l) guards t → AreBlocksUsable (visible l) → AreBlocksUsable (visible (triples keeper t.steps ++ l))
-tried_usable f keeper r l guards t valid legal h usable =
-    let whole : Legal f (triples keeper (h.raised ++ h.swept) ++ l) = subst (λ (ms : List Made). Legal f (triples keeper ms ++ l)) h.steps_are legal in
-    let first : Legal f (triples keeper h.swept ++ l) = legal_earlier f keeper h.raised h.swept l whole in
-    let swept = sweep_usable f keeper false guards h.left h.lowered h.swept l valid first h.sweep usable in
-    let ends = subst (λ (v : View). TryEnds f keeper r v h.raised t.block) (sym (part_of_own keeper h.swept l)) h.ends in
-    rw (h.steps_are, ← (triples_append keeper h.raised h.swept l))
-    (raise_usable f keeper r t.block h.raised (triples keeper h.swept ++ l) valid (subst (Legal f) (sym (triples_append keeper h.raised h.swept l)) whole) ends swept)
-
 -- what follows a try
 left_usable : (f : Profile) (op : Op) (r : Request) (block : Option Block) (p p' : Progress) → IsValid f → Legal f p'.list → AnswersTried f op r block p p'
     → HasUsableBlocks p → HasUsableBlocks p'
@@ -205,7 +191,14 @@ guarded_usable f keeper op (Some r) p p' valid legal is usable =
     let midway : Progress = after_trying p keeper is.0 in
     let on = tried_on f op r is.0.block midway p' is.2 in
     let there : Legal f midway.list = pieces_back (Legal f) (legal_before f) on.0 midway.list (subst (Legal f) on.1 legal) in
-    left_usable f op r is.0.block midway p' valid legal is.2 (tried_usable f keeper r p.list (p.books keeper) is.0 valid there is.1 usable)
+    left_usable f op r is.0.block midway p' valid legal is.2 (let whole : Legal f (triples keeper (is.1.raised ++ is.1.swept) ++ p.list) = subst
+    (λ (ms : List Made). Legal f (triples keeper ms ++ p.list)) is.1.steps_are there in
+    let first : Legal f (triples keeper is.1.swept ++ p.list) = legal_earlier f keeper is.1.raised is.1.swept p.list whole in
+    let swept = sweep_usable f keeper false (p.books keeper) is.1.left is.1.lowered is.1.swept p.list valid first is.1.sweep usable in
+    let ends = subst (λ (v : View). TryEnds f keeper r v is.1.raised is.0.block) (sym (part_of_own keeper is.1.swept p.list)) is.1.ends in
+    rw (is.1.steps_are, ← (triples_append keeper is.1.raised is.1.swept p.list))
+    (raise_usable f keeper r is.0.block is.1.raised (triples keeper is.1.swept ++ p.list) valid
+    (subst (Legal f) (sym (triples_append keeper is.1.raised is.1.swept p.list)) whole) ends swept))
 
 -- Each act leaves each live block on grains that blocks of its page's directory may cover.
 pub act_usable : (f : Profile) (act : Act) → KeepsUsable f act
