@@ -1,14 +1,14 @@
--- From how a call that read its input ended to what its status says: of a check, and of a replay in the order of the text.
+-- From how a call that read its input ended to what its status says: of a check, and of a replay.
 use Rattle.std.proofs.Common.{◌≡◌, ◌≤◌, ℕ, ◌⊎◌, List, Option, Some, ◌∙◌, sym, subst, inl, inr, arith, ◌<◌, Err, ap, length}
 use Rattle.pas_trace.specs.{Plans.{IsPlanOf, parsed}, declared.{plan.Plan.Plan, fault.TraceFault.TraceFault}}
 use Rattle.pas_io.specs.Told.{Tells, Rose}
-use Rattle.pas_answers.specs.Ways.{InOrder}
+use Rattle.pas_answers.specs.Ways.{Way}
+use Rattle.pas_calls.specs.{Manners.way_of, Ends.{Ends, TellsInput}, Judgements.{IsJudged, IsJudgement, judgement_status, judgement_text, verdict_status}}
+use Rattle.pas_calls.specs.Outputs.{ChecksTo, ComesTo, HasFailed, IsCheckStatus, IsCutOff, IsOutput, IsReplayStatus, IsReplaying, IsStatus, IsWriting}
+use Rattle.pas_calls.{specs.{Outputs.{IsWritten, most_bytes}, declared.judging.Judgement.Judgement}, proofs.{OnePlan.same_verdict, Statuses.answered}}
+use Rattle.pas_calls.proofs.Statuses.{cut_off, not_four, sound, written}
 use Rattle.pas_check.{specs.{Inputs.{trace_in, transcript_in}, declared.verdict.Verdict.Verdict}, proofs.Verdicts.one_verdict}
 use Rattle.pas_telling.specs.{Words.IsChecking, declared.manner.Manner.Manner}
-use Rattle.pas_calls.specs.{Ends.{Ends, TellsInput}, Judgements.{IsJudged, IsJudgement, judgement_status, judgement_text, verdict_status}, Outputs.ChecksTo}
-use Rattle.pas_calls.specs.Outputs.{ComesTo, HasFailed, IsCheckStatus, IsCutOff, IsOutput, IsReplayStatus, IsReplaying, IsStatus, IsWriting, IsWritten}
-use Rattle.pas_calls.{specs.{Outputs.most_bytes, declared.judging.Judgement.Judgement}, proofs.{OnePlan.same_verdict, Statuses.{answered, cut_off, not_four}}}
-use Rattle.pas_calls.proofs.Statuses.{sound, written}
 
 -- ---- what an input comes to is one
 one_judged : (bytes : List ℕ) (v w : Verdict) → IsJudged bytes v → IsJudged bytes w → v ≡ w
@@ -71,17 +71,17 @@ comes_verdict bytes status text short plan read (inl has) = (has.verdict, has.st
 comes_verdict bytes status text short plan read (inr (inl (one, mis))) = absurd (other_read (trace_in bytes) mis.fault plan mis.first read)
 comes_verdict bytes status text short plan read (inr (inr (six, is))) = absurd (omega (arith, is.long, short))
 
--- .. in the order of the text
-module _ (bytes : List ℕ) (status : ℕ) (text : List ℕ) (comes : ComesTo InOrder bytes status text) where
+-- .. of a replay
+module _ {way : Way} (bytes : List ℕ) (status : ℕ) (text : List ℕ) (comes : ComesTo way bytes status text) where
   -- Each other status is that of an input which isn't too long.
-  pub order_long : most_bytes < length bytes → status ≡ 6
-  order_long long = search arith
+  pub replay_long : most_bytes < length bytes → status ≡ 6
+  replay_long long = search arith
 
-  pub order_faulty : length bytes ≤ most_bytes → (fault : TraceFault) → parsed bytes ≡ Err fault → status ≡ 1
-  order_faulty short fault first = search (arith, other_read)
+  pub replay_faulty : length bytes ≤ most_bytes → (fault : TraceFault) → parsed bytes ≡ Err fault → status ≡ 1
+  replay_faulty short fault first = search (arith, other_read)
 
-  order_replayed : length bytes ≤ most_bytes → (plan : Plan) → IsPlanOf bytes plan → status ≡ 0
-  order_replayed short plan read = search (arith, other_read)
+  is_replayed : length bytes ≤ most_bytes → (plan : Plan) → IsPlanOf bytes plan → status ≡ 0
+  is_replayed short plan read = search (arith, other_read)
 
 -- in each case it computes, or is given
 zero_or_eight_of : (r : ℕ) (v : Verdict) → r ≡ verdict_status v → (r ≡ 0) ⊎ (r ≡ 8) ⊎ (r ≡ 5)
@@ -101,14 +101,14 @@ four_alone r four is = search arith
 writing_other : (r : ℕ) → IsWriting r → (r ≡ 3) ⊎ (r ≡ 5) → ⊥
 writing_other r is has = search (arith, not_other)
 
--- what a call for a check tells, and one for a replay in the order of the text
+-- what a call for a check tells, and one for a replay
 pub check_output : {words : List (List ℕ)} {rest : Option (List ℕ)} → IsChecking words → (status : ℕ) (text : List ℕ) → IsCheckStatus status
     → ((bytes : List ℕ) → rest ≡ Some bytes → ChecksTo bytes status text) → IsOutput words rest status text
 check_output asked status text status_is comes = inr (inr (inl (record { asked = asked; status_is = status_is; comes = comes })))
 
-pub order_output : {words : List (List ℕ)} {rest : Option (List ℕ)} → IsReplaying Manner.InOrder words → (status : ℕ) (text : List ℕ) → IsReplayStatus status
-    → ((bytes : List ℕ) → rest ≡ Some bytes → ComesTo InOrder bytes status text) → IsOutput words rest status text
-order_output asked status text status_is comes = inr (inl (record { manner = Manner.InOrder; asked = asked; status_is = status_is; comes = comes }))
+pub replay_output : {words : List (List ℕ)} {rest : Option (List ℕ)} (manner : Manner) → IsReplaying manner words → (status : ℕ) (text : List ℕ)
+    → IsReplayStatus status → ((bytes : List ℕ) → rest ≡ Some bytes → ComesTo (way_of manner) bytes status text) → IsOutput words rest status text
+replay_output manner asked status text status_is comes = inr (inl (record { manner = manner; asked = asked; status_is = status_is; comes = comes }))
 
 module _ {MayTell : ℕ → Type 0} {Comes : List ℕ → ℕ → List ℕ → Type 0} {rest rest' held held' : Option (List ℕ)} {misses misses' faults faults' result : ℕ}
     (ends : Ends MayTell Comes rest rest' misses misses' held held' faults faults' result) where
@@ -175,8 +175,8 @@ pub check_sure : (bytes : List ℕ) (result : ℕ) → length bytes ≤ most_byt
 check_sure bytes result short plan read (inl five) = inr (inr five)
 check_sure bytes result short plan read (inr (status, text, is, comes)) = zero_or_eight result status is (comes_verdict bytes status text short plan read comes)
 
--- A replay in the order of the text ends with 0 or 5 then.
-pub order_sure : (bytes : List ℕ) (result : ℕ) → length bytes ≤ most_bytes → (plan : Plan) → IsPlanOf bytes plan
-    → (result ≡ 5) ⊎ ((status : ℕ) × (text : List ℕ) × (result ≡ status) × ComesTo InOrder bytes status text) → (result ≡ 0) ⊎ (result ≡ 5)
-order_sure bytes result short plan read (inl five) = inr five
-order_sure bytes result short plan read (inr (status, text, is, comes)) = inl (is ∙ order_replayed bytes status text comes short plan read)
+-- A replay ends with 0 or 5 then.
+pub replay_sure : {way : Way} (bytes : List ℕ) (result : ℕ) → length bytes ≤ most_bytes → (plan : Plan) → IsPlanOf bytes plan
+    → (result ≡ 5) ⊎ ((status : ℕ) × (text : List ℕ) × (result ≡ status) × ComesTo way bytes status text) → (result ≡ 0) ⊎ (result ≡ 5)
+replay_sure bytes result short plan read (inl five) = inr five
+replay_sure bytes result short plan read (inr (status, text, is, comes)) = inl (is ∙ is_replayed bytes status text comes short plan read)

@@ -13,13 +13,14 @@ use Rattle.pas_telling.specs.{Summaries.summary_text, declared.{manner.Manner.Ma
 use Rattle.pas_telling.specs.Outcomes.{IsShown, IsWritable, outcome_status, outcome_text, shown_text}
 use Rattle.pas_calls.specs.{Generating.IsSummarized, Manners.way_of, Outcomes.IsOutcome, OneText.{IsTextOf, WritesTextOf, IsOfOne, IsTextBy, summary_of_world}}
 use Rattle.pas_calls.specs.{OneText.{summary_for, IsSummaryOf}, Outputs.{ComesTo, IsReplaying, IsChecking, IsGen, IsOutput, IsReplayed, IsWritten, most_bytes}}
-use Rattle.pas_calls.{specs.Outputs.{too_long_text, IsReplayStatus}, proofs.{OnePlan.same_plan, Whole.replay_accepted}}
+use Rattle.pas_calls.{specs.{Outputs.{too_long_text, IsReplayStatus}, Ends.TellsInput}, proofs.{OnePlan.same_plan, Whole.replay_accepted}}
 use Rattle.pas_steps.specs.{Lists.{Legal, visible}, States.profile_of, declared.state.State.State}
 use Rattle.pas_core.proofs.MachineRuns.{agrees}
 use Rattle.pas_acts.proofs.PlanFacts.{plan_valid}
 use Rattle.pas_check.{specs.{Accepted.{IsAccepted, IsVerdict}, declared.verdict.Verdict.{Verdict, TheVariants.Yes}}, proofs.Verdicts.one_verdict}
 use Rattle.pas_records.specs.{Lines.lines_of, Marks.marks_after, Rests.{AreStamped, HasWords}, Rooms.records_in, declared.record.Record.Record}
 use Rattle.pas_records.proofs.MarksAtRest.{nobody_holds}
+use Rattle.pas_io.specs.Told.{Tells}
 
 -- ---- the text
 text_told : (bytes text : List ℕ) → IsReplayed InOrder bytes text → IsTextOf bytes text
@@ -146,34 +147,22 @@ order_comes bytes plan records state short read shows =
     let replayed : IsReplayed InOrder bytes text = shown_replayed read shows in
     inl (refl, record { short = short; replayed = replayed; told = text_by InOrder bytes text replayed (λ one. replayed) })
 
--- The status of an outcome is never 4.
-pub status_not_four : (outcome : Outcome) → outcome_status outcome ≡ 4 → ⊥
-status_not_four outcome four = search arith
-
 -- The status of each outcome of a replay is one of these: outcome by outcome.
 replay_status : (outcome : Outcome) → IsReplayStatus (outcome_status outcome)
 replay_status outcome = search arith
 
--- the output of a call whose input was read whole
-pub outcome_output : (words : List (List ℕ)) (told : Option (List ℕ)) (read : List ℕ) (manner : Manner) (outcome : Outcome) → IsReplaying manner words
-    → ((bytes : List ℕ) → told ≡ Some bytes → (read ≡ bytes) × (length bytes ≤ most_bytes)) → IsOutcome (way_of manner) read outcome
-    → IsOutput words told (outcome_status outcome) (outcome_text outcome)
-outcome_output words told read manner outcome asked whole is = inr (inl (record {
-  manner = manner;
-  asked = asked;
+-- What is told of an outcome and of the input's length is what a call for a replay tells.
+pub tells_outcome : (way : Way) (rest held held' : Option (List ℕ)) (faults faults' result : ℕ) (read : List ℕ) (outcome : Outcome) → IsOutcome way read outcome
+    → ((bytes : List ℕ) → rest ≡ Some bytes → (read ≡ bytes) × (length bytes ≤ most_bytes))
+    → Tells held held' faults faults' (outcome_text outcome) (outcome_status outcome) result
+    → TellsInput IsReplayStatus (ComesTo way) rest held held' faults faults' result
+tells_outcome way rest held held' faults faults' result read outcome is whole tells = record {
+  status = outcome_status outcome;
+  text = outcome_text outcome;
   status_is = replay_status outcome;
-  comes = λ bytes tells. let input = whole bytes tells in comes_to (way_of manner) bytes outcome input.1 (subst (λ (t : List ℕ). IsOutcome (way_of manner) t outcome) input.0 is);
-}))
-
--- the output of a call whose input was too long
-pub too_long_output : (words : List (List ℕ)) (told : Option (List ℕ)) (manner : Manner) → IsReplaying manner words
-    → ((bytes : List ℕ) → told ≡ Some bytes → most_bytes < length bytes) → IsOutput words told 6 too_long_text
-too_long_output words told manner asked long = inr (inl (record {
-  manner = manner;
-  asked = asked;
-  status_is = inr (inr refl);
-  comes = λ bytes tells. inr (inr (refl, record { long = long bytes tells; text_is = refl }));
-}))
+  comes = λ bytes told. let input = whole bytes told in comes_to way bytes outcome input.1 (subst (λ (t : List ℕ). IsOutcome way t outcome) input.0 is);
+  tells = tells;
+}
 
 -- ---- Every transcript of `order` is accepted.
 pub transcript_accepted : (bytes text : List ℕ) → IsReplayed InOrder bytes text → (plan : Plan) → IsPlanOf bytes plan → IsAccepted plan text

@@ -1,7 +1,7 @@
 -- How a call that reads its input ended.
 use Rattle.std.specs.Prelude.{ℕ, ◌≡◌, ◌⊎◌, List, Option, Some}
 use Rattle.pas_io.specs.Told.{Tells}
-use Rattle.pas_answers.specs.Ways.{InOrder}
+use Rattle.pas_answers.specs.Ways.{Way}
 use Rattle.pas_calls.specs.Outputs.{ChecksTo, ComesTo, HasFailed, IsCheckStatus, IsReplayStatus}
 
 -- what the input comes to was told, with a status that such a call may tell; the source told `rest` before
@@ -23,7 +23,7 @@ Ends MayTell Comes rest rest' misses misses' held held' faults faults' result =
 abbrev pub EndsCheck : Option (List ℕ) → Option (List ℕ) → ℕ → ℕ → Option (List ℕ) → Option (List ℕ) → ℕ → ℕ → ℕ → Type 0
 EndsCheck rest rest' misses misses' held held' faults faults' result = Ends IsCheckStatus ChecksTo rest rest' misses misses' held held' faults faults' result
 
--- .. of a replay in the order of the text
-abbrev pub EndsOrder : Option (List ℕ) → Option (List ℕ) → ℕ → ℕ → Option (List ℕ) → Option (List ℕ) → ℕ → ℕ → ℕ → Type 0
-EndsOrder rest rest' misses misses' held held' faults faults' result =
-    Ends IsReplayStatus (ComesTo InOrder) rest rest' misses misses' held held' faults faults' result
+-- .. of a replay in this way
+abbrev pub EndsReplay : Way → Option (List ℕ) → Option (List ℕ) → ℕ → ℕ → Option (List ℕ) → Option (List ℕ) → ℕ → ℕ → ℕ → Type 0
+EndsReplay way rest rest' misses misses' held held' faults faults' result =
+    Ends IsReplayStatus (ComesTo way) rest rest' misses misses' held held' faults faults' result

@@ -5,7 +5,7 @@ ghost use Rattle.pas_io.specs.declared.reach.Reach.TheVariants as Reach;
 ghost use Rattle.pas_trace.specs.{Plans.IsPlanOf, Scripts.IsScriptOf, declared.plan.Plan.Plan as ThePlan};
 ghost use Rattle.pas_answers.specs.{Replays.{phases_of, Shows}, Ways.InOrder};
 ghost use Rattle.pas_replay.specs.Kits.{MayReplay};
-ghost use Rattle.pas_calls.specs.{Ends.EndsOrder, Givens.IsAllOf, Ordered.{Orders, TellsLines, TellsReplay}, Outcomes.IsOutcome, Outputs.most_bytes};
+ghost use Rattle.pas_calls.specs.{Ends.EndsReplay, Givens.IsAllOf, Ordered.{Orders, TellsLines, TellsReplay}, Outcomes.IsOutcome, Outputs.most_bytes};
 ghost use Rattle.pas_records.specs.Rooms.{records_in, room_of};
 
 use crate::judging::TOO_LONG;
@@ -28,7 +28,7 @@ use std::alloc::Global;
 /// first fault was; 3 where a read failed, 4 where a write failed, 5 where the program was out of memory, and 6 where the input is too long. All input is
 /// read and all memory is taken before anything is written.
 pub fn order_input<S: Source, K: Sink>(alloc: Global, source: &mut S, sink: &mut K) -> u8
-    ensures ends { EndsOrder (S.rest source.old) (S.rest source.new) (S.faults source.old) (S.faults source.new) (K.held sink.old) (K.held sink.new) (K.faults sink.old) (K.faults sink.new) result }
+    ensures ends { EndsReplay InOrder (S.rest source.old) (S.rest source.new) (S.faults source.old) (S.faults source.new) (K.held sink.old) (K.held sink.new) (K.faults sink.old) (K.faults sink.new) result }
     ensures taken { (bytes : List ℕ) → S.rest source.old ≡ Some bytes → Takes bytes (S.rest source.new) (most_bytes + 1) }
     ensures ended { (bytes : List ℕ) → S.rest source.old ≡ Some bytes → (result ≡ 0) ⊎ (result ≡ 1) ⊎ (result ≡ 8) → S.rest source.new ≡ Some [] }
     ensures stops { S.reach source.old ≡ Reach.Within → StopsAtEnd (S.reach source.new) }

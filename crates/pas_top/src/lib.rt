@@ -4,6 +4,7 @@
 pub mod main_call;
 mod opening;
 mod outcome;
+mod running;
 
 pub use main_call::pas_main;
 pub use pas_calls::laws;

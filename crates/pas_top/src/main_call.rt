@@ -8,13 +8,11 @@ ghost use Rattle.pas_telling.specs.declared.manner.Manner.{Manner};
 ghost use Rattle.pas_calls.specs.{Judgements.{IsJudged, verdict_status}, OneText.WritesTextOf, Outputs.{most_bytes, texts_of, IsReplaying, IsChecking}};
 ghost use Rattle.pas_calls.specs.Outputs.{ReadsInput, IsGen, IsAccepted, IsStatus, IsWriting, IsWritten, HasFailed, IsCutOff};
 
-use crate::outcome::{replayed_on_threads, tell_outcome};
+use crate::running::run_input;
 use pas_calls::generating::generate;
-use pas_calls::judging::{TOO_LONG, check_input};
+use pas_calls::judging::check_input;
 use pas_calls::ordering::order_input;
-use pas_io::whole::{Input, Stop, read_all};
 use pas_io::{Sink, Source};
-use pas_profile::limits::MOST_BYTES;
 use pas_telling::{Call, Manner, Misread, call_of, tell};
 use std::alloc::Global;
 use std::sync::Wait;
@@ -42,7 +40,7 @@ const USAGE: &str = "usage: pas order | pas run | pas check | pas gen SEED OPS T
 /// its end where the status is 0, 1 or 8. No read is made after one that met the end, and at most 16,777,217 bytes are taken. Nothing is written before the replay or
 /// the check has ended, but for the lines of `order`: they are written as they come, once all input is read and all memory is taken.
 ///
-/// Of its calls `replayed_on_threads` alone may wait, so with other words than `run` each of them returns. Time, of which no clause speaks, is at most in proportion to
+/// Of its calls `run_input` alone may wait, so with other words than `run` each of them returns. Time, of which no clause speaks, is at most in proportion to
 /// operations times pages, beside the bytes that come in and go out.
 pub fn pas_main<R: Threads + Wait + Sync, S: Source, K: Sink>(
     rt: &R,
@@ -93,21 +91,11 @@ pub fn pas_main<R: Threads + Wait + Sync, S: Source, K: Sink>(
         → (result ≡ 0) ⊎ (result ≡ 8) ⊎ (result ≡ 5) }
 {
     match call_of(alloc, words) {
-        Ok(Call::Replay(Manner::InOrder)) => return order_input(alloc, source, sink),
-        Ok(Call::Replay(Manner::OnThreads)) => {}
-        Ok(Call::Check) => return check_input(alloc, source, sink),
-        Ok(Call::Gen(job)) => return generate(alloc, job, sink),
-        Err(Misread::Usage) => return tell(sink, USAGE, 2),
-        Err(Misread::Memory) => return 5,
-    }
-    let bytes = match read_all(alloc, source, MOST_BYTES) {
-        Ok(Input::Whole(bytes)) => bytes,
-        Ok(Input::TooLong) => return tell(sink, TOO_LONG, 6),
-        Err(Stop::Fault) => return 3,
-        Err(Stop::Memory) => return 5,
-    };
-    match replayed_on_threads(rt, alloc, bytes) {
-        Ok((outcome, spent)) => tell_outcome(rt, alloc, Manner::OnThreads, sink, outcome, spent),
-        Err(_) => 5,
+        Ok(Call::Replay(Manner::InOrder)) => order_input(alloc, source, sink),
+        Ok(Call::Replay(Manner::OnThreads)) => run_input(rt, alloc, source, sink),
+        Ok(Call::Check) => check_input(alloc, source, sink),
+        Ok(Call::Gen(job)) => generate(alloc, job, sink),
+        Err(Misread::Usage) => tell(sink, USAGE, 2),
+        Err(Misread::Memory) => 5,
     }
 }

@@ -4,9 +4,8 @@ use Rattle.pas_telling.specs.{Outcomes.{outcome_status, outcome_text}, Calls.{Is
 use Rattle.pas_answers.specs.Ways.{OnThreads}
 use Rattle.pas_calls.proofs.{Statuses.{gen_written, gen_cut_off, gen_sound, gen_summed, cut_off, not_four, sound, written}, Endings.{check_output, check_sure}}
 use Rattle.pas_calls.proofs.Endings.{comes_faulty, comes_judged, comes_long, ended_cut_off, ended_failed, ended_sound, ended_status, ended_sure, ended_with}
-use Rattle.pas_calls.proofs.{Endings.{ended_written, order_faulty, order_long, order_output, order_sure}, Headline.{can_write, outcome_output, too_long_output}}
-use Rattle.pas_calls.{proofs.Headline.{status_not_four, written_told}, specs.{Judgements.verdict_status, Outputs.{IsReplaying, IsChecking, IsAccepted}}}
-use Rattle.pas_calls.specs.Outputs.{IsOutput, most_bytes, texts_of}
+use Rattle.pas_calls.proofs.{Endings.{ended_written, replay_faulty, replay_long, replay_output, replay_sure}, Headline.written_told}
+use Rattle.pas_calls.specs.{Judgements.verdict_status, Outputs.{IsReplaying, IsChecking, IsAccepted, IsOutput, most_bytes, texts_of}}
 use Rattle.pas_top.proofs.main_call.pas_main.Given as given
 use Rattle.pas_top.proofs.main_call.pas_main.Goals as goal
 
@@ -28,14 +27,6 @@ returns-in-Err-Usage-clause-sink_failed g c =
     let other : IsAccepted (texts_of c.args.words.now) → ⊥ = subst (IsMisread (texts_of c.args.words.now)) c.in-Err-Usage.field-0-is c.in-Err-Usage.ensures.misread in
     cut_off c.tell.ensures (inl (other, refl, refl)) (λ e. omega (arith, e))
 
-pub returns-in-Ok-TooLong-clause-sink_failed : goal.returns-in-Ok-TooLong-clause-sink_failed
-returns-in-Ok-TooLong-clause-sink_failed g c =
-    let asked : IsReplaying Manner.OnThreads (texts_of c.args.words.now) =
-    asked_for _ c.in-Ok-Replay-OnThreads.field-0-is c.in-Ok-Replay-OnThreads.field-0-0-is c.in-Ok-Replay-OnThreads.ensures.call in
-    cut_off c.tell-in-Ok-TooLong.ensures
-    (too_long_output _ _ Manner.OnThreads asked (λ bytes told. let input
-    = subst (IsInput most_bytes bytes) c.in-Ok-TooLong.field-0-is (c.in-Ok-TooLong.ensures.input bytes told) in input)) (λ e. omega (arith, e))
-
 -- ---- a replay in the order of the text
 pub returns-in-Ok-Replay-InOrder-clause-status : goal.returns-in-Ok-Replay-InOrder-clause-status
 returns-in-Ok-Replay-InOrder-clause-status g c = ended_status c.order_input.ensures.ends (λ s is. inl is)
@@ -44,7 +35,7 @@ pub returns-in-Ok-Replay-InOrder-clause-written : goal.returns-in-Ok-Replay-InOr
 returns-in-Ok-Replay-InOrder-clause-written g c =
     let asked : IsReplaying Manner.InOrder (texts_of c.args.words.now) =
     asked_for _ c.in-Ok-Replay-InOrder.field-0-is c.in-Ok-Replay-InOrder.field-0-0-is c.in-Ok-Replay-InOrder.ensures.call in
-    ended_written c.order_input.ensures.ends (λ s is. inl is) (texts_of c.args.words.now) (order_output asked)
+    ended_written c.order_input.ensures.ends (λ s is. inl is) (texts_of c.args.words.now) (replay_output Manner.InOrder asked)
 
 pub returns-in-Ok-Replay-InOrder-clause-text : goal.returns-in-Ok-Replay-InOrder-clause-text
 returns-in-Ok-Replay-InOrder-clause-text g c asked bytes told zero = written_told (texts_of c.args.words.now)
@@ -58,42 +49,57 @@ pub returns-in-Ok-Replay-InOrder-clause-sink_failed : goal.returns-in-Ok-Replay-
 returns-in-Ok-Replay-InOrder-clause-sink_failed g c =
     let asked : IsReplaying Manner.InOrder (texts_of c.args.words.now) =
     asked_for _ c.in-Ok-Replay-InOrder.field-0-is c.in-Ok-Replay-InOrder.field-0-0-is c.in-Ok-Replay-InOrder.ensures.call in
-    ended_cut_off c.order_input.ensures.ends (λ s is. inl is) (texts_of c.args.words.now) (order_output asked)
+    ended_cut_off c.order_input.ensures.ends (λ s is. inl is) (texts_of c.args.words.now) (replay_output Manner.InOrder asked)
 
 pub returns-in-Ok-Replay-InOrder-clause-sink_sound : goal.returns-in-Ok-Replay-InOrder-clause-sink_sound
 returns-in-Ok-Replay-InOrder-clause-sink_sound g c = ended_sound c.order_input.ensures.ends (λ quiet. ap g.K.Sink.faults (c.order_input.ensures.unheard quiet))
 
 pub returns-in-Ok-Replay-InOrder-clause-too_long : goal.returns-in-Ok-Replay-InOrder-clause-too_long
 returns-in-Ok-Replay-InOrder-clause-too_long g c reads bytes told long =
-    ended_with c.order_input.ensures.ends bytes told 6 (λ status text comes. order_long bytes status text comes long)
+    ended_with c.order_input.ensures.ends bytes told 6 (λ status text comes. replay_long bytes status text comes long)
 
 pub returns-in-Ok-Replay-InOrder-clause-faulty : goal.returns-in-Ok-Replay-InOrder-clause-faulty
 returns-in-Ok-Replay-InOrder-clause-faulty g c manner asked bytes told short fault first =
-    ended_with c.order_input.ensures.ends bytes told 1 (λ status text comes. order_faulty bytes status text comes short fault first)
+    ended_with c.order_input.ensures.ends bytes told 1 (λ status text comes. replay_faulty bytes status text comes short fault first)
 
 pub returns-in-Ok-Replay-InOrder-clause-complete : goal.returns-in-Ok-Replay-InOrder-clause-complete
 returns-in-Ok-Replay-InOrder-clause-complete g c manner asked bytes told short plan read never unfailed =
-    order_sure bytes c.order_input.result short plan read (ended_sure c.order_input.ensures.ends bytes told never unfailed)
+    replay_sure bytes c.order_input.result short plan read (ended_sure c.order_input.ensures.ends bytes told never unfailed)
 
 -- ---- a replay on threads
-pub tell_outcome-requires-after_bounds : goal.tell_outcome-requires-after_bounds
-tell_outcome-requires-after_bounds g c = let can = can_write OnThreads c.in-Ok-Whole.bytes.items c.in-Ok.outcome c.in-Ok.ensures in search (rules, can)
+pub returns-in-Ok-Replay-OnThreads-clause-status : goal.returns-in-Ok-Replay-OnThreads-clause-status
+returns-in-Ok-Replay-OnThreads-clause-status g c = ended_status c.run_input.ensures.ends (λ s is. inl is)
 
-output_on_threads : (g : given.Over) (c : goal.After-tell_outcome g)
-    → IsOutput (texts_of c.args.words.now) (g.S.Source.rest c.args.source.now) (outcome_status c.in-Ok.outcome) (outcome_text c.in-Ok.outcome)
-output_on_threads g c =
+pub returns-in-Ok-Replay-OnThreads-clause-written : goal.returns-in-Ok-Replay-OnThreads-clause-written
+returns-in-Ok-Replay-OnThreads-clause-written g c =
     let asked : IsReplaying Manner.OnThreads (texts_of c.args.words.now) =
     asked_for _ c.in-Ok-Replay-OnThreads.field-0-is c.in-Ok-Replay-OnThreads.field-0-0-is c.in-Ok-Replay-OnThreads.ensures.call in
-    outcome_output (texts_of c.args.words.now) (g.S.Source.rest c.args.source.now) c.in-Ok-Whole.bytes.items Manner.OnThreads c.in-Ok.outcome asked
-    (λ bytes told. let input = subst (IsInput most_bytes bytes) c.in-Ok-Whole.field-0-is (c.in-Ok-Whole.ensures.input bytes told) in input)
-    c.in-Ok.ensures
+    ended_written c.run_input.ensures.ends (λ s is. inl is) (texts_of c.args.words.now) (replay_output Manner.OnThreads asked)
 
-pub returns-in-Ok-clause-written : goal.returns-in-Ok-clause-written
-returns-in-Ok-clause-written g c writing = written c.tell_outcome.ensures (output_on_threads g c) (not_four c.tell_outcome.result writing)
+pub returns-in-Ok-Replay-OnThreads-clause-source_failed : goal.returns-in-Ok-Replay-OnThreads-clause-source_failed
+returns-in-Ok-Replay-OnThreads-clause-source_failed g c three =
+    (ended_failed c.run_input.ensures.ends (λ s is. inl is) three, c.run_input.ensures.unheard (inl three))
 
-pub returns-in-Ok-clause-sink_failed : goal.returns-in-Ok-clause-sink_failed
-returns-in-Ok-clause-sink_failed g c =
-    cut_off c.tell_outcome.ensures (output_on_threads g c) (status_not_four c.in-Ok.outcome)
+pub returns-in-Ok-Replay-OnThreads-clause-sink_failed : goal.returns-in-Ok-Replay-OnThreads-clause-sink_failed
+returns-in-Ok-Replay-OnThreads-clause-sink_failed g c =
+    let asked : IsReplaying Manner.OnThreads (texts_of c.args.words.now) =
+    asked_for _ c.in-Ok-Replay-OnThreads.field-0-is c.in-Ok-Replay-OnThreads.field-0-0-is c.in-Ok-Replay-OnThreads.ensures.call in
+    ended_cut_off c.run_input.ensures.ends (λ s is. inl is) (texts_of c.args.words.now) (replay_output Manner.OnThreads asked)
+
+pub returns-in-Ok-Replay-OnThreads-clause-sink_sound : goal.returns-in-Ok-Replay-OnThreads-clause-sink_sound
+returns-in-Ok-Replay-OnThreads-clause-sink_sound g c = ended_sound c.run_input.ensures.ends (λ quiet. ap g.K.Sink.faults (c.run_input.ensures.unheard quiet))
+
+pub returns-in-Ok-Replay-OnThreads-clause-too_long : goal.returns-in-Ok-Replay-OnThreads-clause-too_long
+returns-in-Ok-Replay-OnThreads-clause-too_long g c reads bytes told long =
+    ended_with c.run_input.ensures.ends bytes told 6 (λ status text comes. replay_long bytes status text comes long)
+
+pub returns-in-Ok-Replay-OnThreads-clause-faulty : goal.returns-in-Ok-Replay-OnThreads-clause-faulty
+returns-in-Ok-Replay-OnThreads-clause-faulty g c manner asked bytes told short fault first =
+    ended_with c.run_input.ensures.ends bytes told 1 (λ status text comes. replay_faulty bytes status text comes short fault first)
+
+pub returns-in-Ok-Replay-OnThreads-clause-complete : goal.returns-in-Ok-Replay-OnThreads-clause-complete
+returns-in-Ok-Replay-OnThreads-clause-complete g c manner asked bytes told short plan read never unfailed =
+    replay_sure bytes c.run_input.result short plan read (ended_sure c.run_input.ensures.ends bytes told never unfailed)
 
 -- ---- a summary
 pub returns-in-Ok-Gen-clause-summed : goal.returns-in-Ok-Gen-clause-summed
@@ -104,9 +110,6 @@ returns-in-Ok-Gen-clause-sink_sound g c whole = gen_sound _ _ c.generate.ensures
 
 pub returns-in-Err-Usage-clause-sink_sound : goal.returns-in-Err-Usage-clause-sink_sound
 returns-in-Err-Usage-clause-sink_sound g c whole = sound _ _ c.tell.ensures whole
-
-pub returns-in-Ok-TooLong-clause-sink_sound : goal.returns-in-Ok-TooLong-clause-sink_sound
-returns-in-Ok-TooLong-clause-sink_sound g c whole = sound _ _ c.tell-in-Ok-TooLong.ensures whole
 
 -- ---- a check
 pub returns-in-Ok-Check-clause-status : goal.returns-in-Ok-Check-clause-status
