@@ -2,24 +2,24 @@
 use Rattle.std.proofs.Common.{◌≡◌, ℕ, ◌+◌, ◌/◌, ◌^◌, ◌<◌, ◌≤◌, Bool, List, [], ◌∷◌, ◌++◌, length, Ok, Err, Result, inl, inr, Option, Some, true≢false, refl, ap}
 use Rattle.std.proofs.{Common.{sym, ◌∙◌, subst, arith, append_assoc, append-nil, length-append, MatchResult, All, ◌%◌, max}, lemmas.List.Elements.All-weaker}
 use Rattle.std.{proofs.lemmas.List.Sorted.{IsPermutation-sym, IsPermutation-to_front}, specs.List.AllByRecursion}
-use Rattle.pas_steps.specs.{Calls.Calls, Views.{View, has_right}, Events.events_by, Agreement.Agreed, Lists.{Whole, part, Legal}, Unknown.unknown_pages}
-use Rattle.pas_steps.{specs.{Kinds.{returning, Only}, Desks.{Standing, Seat, CanCall, triples}, declared.step.Made.Made}, proofs.Called.{call_as, next_call}}
-use Rattle.pas_steps.proofs.{Calls.{leads_as, leads_at}, SpareRoom.{Spares, spare_falls}, Frames.{events_append, deed_stays}, Apart.{no_events, only_both}}
-use Rattle.pas_steps.proofs.{Apart.only_within, Unknown.{unknown_no_more, none_unknown}, Parts.{part_of_own, part_of_others}, Adding.{adds_none, adds_call}}
-use Rattle.pas_steps.proofs.Adding.{can_call, agreed_first, agreed_later, triples_append}
+use Rattle.pas_steps.specs.{Calls.Calls, Views.{View, has_right}, Events.events_by, Agreement.Agreed, Lists.{Whole, part, Legal}, Kinds.{returning, Only}}
+use Rattle.pas_steps.{specs.{Desks.{Standing, Seat, CanCall, triples}, declared.step.Made.Made}, proofs.{Called.{call_as, next_call}, Calls.leads_as}}
+use Rattle.pas_steps.proofs.{Calls.leads_at, SpareRoom.{Spares, spare_falls}, Frames.{events_append, deed_stays}, Apart.{no_events, only_both, only_within}}
+use Rattle.pas_steps.proofs.{Unknown.{unknown_no_more, none_unknown}, Parts.{part_of_own, part_of_others}, Adding.{adds_none, adds_call, can_call}}
+use Rattle.pas_steps.proofs.Adding.{agreed_first, agreed_later, triples_append}
 use Rattle.pas_profile.specs.{Profiles.{IsAdmitted, IsDirectoryOf, IsPage, IsValid}, Routes.room_by, Classes.{IsClass, class_size, IsSlotStart}}
-use Rattle.pas_profile.specs.{Directories.{IsKind, IsKindAmong, deed_word_of}, Requests.{is_shared, kind_of_class, kind_of_route, route_in, room_in}}
-use Rattle.pas_profile.specs.{Requests.class_home, declared.{directory.{Kind.Kind as TheKind, Route.Route, Directory.Directory}, profile.Profile.Profile}}
-use Rattle.pas_profile.{specs.declared.{event.{Event.Event, NoRoom.{NoRoom, TheVariants.NoSpace}}, name.Block.Block}, proofs.Sizes.{class_suits, class_known}}
+use Rattle.pas_profile.specs.{Directories.{IsKind, deed_word_of}, Requests.{is_shared, kind_of_class, kind_of_route, route_in, room_in, class_home}}
+use Rattle.pas_profile.specs.declared.{directory.{Kind.Kind as TheKind, Route.Route, Directory.Directory}, profile.Profile.Profile, event.Event.Event}
+use Rattle.pas_profile.{specs.declared.{event.NoRoom.{NoRoom, TheVariants.NoSpace}, name.Block.Block}, proofs.Sizes.{class_suits, class_known}}
 use Rattle.pas_profile.proofs.{Sizes.routed_slot_aligned, Codecs.deed_word_of-positive}
 use Rattle.pas_utility.specs.{Heaps.{marks_of, is_marked}, declared.table.HeapTable.HeapTable}
 use Rattle.pas_cache.specs.{Caches.{Cached, AtRest}, Calls.{MayAllocate, Allocates}, Changes.{GivesSlot, LeavesSpent}, Kinds.{releasing, allocating}}
-use Rattle.pas_cache.specs.{Locals.{local_for, IsFormed, IsLocal, RestsWith}, Serves.{Wanted, wanted_for, class_wanted, IsFilling, IsRefill, IsObtained}}
-use Rattle.pas_cache.specs.Serves.{IsAnswered, ServesLocals, IsPreparing, IsBlockFor, IsSilent, filling_in, IsToldBy, pages_of, HasNoneCached, Fetches}
-use Rattle.pas_cache.specs.{Serves.{ServesClass, ServesBitfit, ServesPages, ServesBy, ServesRequest}, Parts.{MayGiveSlot, GivesLowest, MayObtain, Obtains}}
-use Rattle.pas_cache.specs.{Parts.{ServesFrom, IsToldOf, IsTrueOf}, Refusals.{IsTrulyRefusedBy, IsTrulyRefused, OthersHaveNone, GoesByDoorOn, TakesWhatIsNamed}}
-use Rattle.pas_cache.proofs.{Resting.{here, may_give_slot, rests_reordered, rests_given, given_page}, Obtained.{obtain_rests, refill_events, prepared}}
-use Rattle.pas_cache.proofs.{Obtained.{refused_steps, refusal, no_fit_before, none_shortened, may_search}, Routes.{may_search_bitfit, bitfit_wanted, may_find}}
+use Rattle.pas_cache.specs.{Locals.{IsFormed, IsLocal, RestsWith}, Serves.{Wanted, wanted_for, class_wanted, IsFilling, IsRefill, IsObtained, IsAnswered}}
+use Rattle.pas_cache.specs.Serves.{ServesLocals, IsPreparing, IsBlockFor, IsSilent, filling_in, pages_of, Fetches, ServesClass, ServesBitfit, ServesPages}
+use Rattle.pas_cache.specs.{Serves.{ServesBy, ServesRequest}, Parts.{MayGiveSlot, GivesLowest, MayObtain, Obtains, ServesFrom, IsTrueOf}}
+use Rattle.pas_cache.{specs.Refusals.{IsTrulyRefusedBy, IsTrulyRefused, OthersHaveNone, GoesByDoorOn, TakesWhatIsNamed}, proofs.Resting.{here, may_give_slot}}
+use Rattle.pas_cache.proofs.{Resting.{rests_reordered, rests_given, given_page}, Obtained.{obtain_rests, refill_events, prepared, refused_steps, refusal}}
+use Rattle.pas_cache.proofs.{Obtained.{no_fit_before, none_shortened, may_search}, Routes.{may_search_bitfit, bitfit_wanted, may_find}}
 use Rattle.pas_bits.specs.{Bits.has_bit, Masks.HasMember}
 use Rattle.pas_search.{proofs.{ForBackEnds.events_quiet, FindingAPage.{refused_told, OwnLacks, still_lacks, none_held_there}}, specs.Searches.search_steps}
 use Rattle.pas_search.specs.{Searches.IsRefused, Kinds.{searching, AreSearch}, Telling.IsTrueReason}
@@ -50,8 +50,7 @@ room_to_give {σ} {spare = spare} {spare1 = spare1} {locals} fill tells one can 
 pub give_call : {σ σ1 : Standing} {spare : ℕ} (fill : Filling) (tells : Bool) (locals fewer : List Slots) (slots : Slots)
     → Obtains fill tells locals fewer σ σ1 (Ok slots) → CanCall σ (MayObtain σ.seat.profile 2 spare locals)
     → CanCall σ1 (MayGiveSlot σ1.seat.profile slots)
-give_call {σ} {σ1} fill tells locals fewer slots one can = next_call one.calls (obtain_rests can) (λ v met here. subst
-    (λ (s : Seat). MayGiveSlot s.profile slots (one.steps ++ v)) (sym one.calls.adds.seat_is) (may_give_slot _ _ fewer (one.steps ++ v) here))
+give_call {σ} {σ1} fill tells locals fewer slots one can = next_call one.calls (obtain_rests can) (λ v met here. rw one.calls.adds.seat_is (may_give_slot _ _ fewer (one.steps ++ v) here))
 
 -- ---- kinds and events of what was made before the give
 refill_kinds : {fill : Filling} {f : Profile} {steps : List Made} {found : Result Slots NoRoom} → IsRefill fill f steps found → Only allocating steps
@@ -103,13 +102,7 @@ serves_given {σ} {σ1} {σ2} fill tells locals fewer after slots rest block can
       };
       change = record { found = Ok slots; fewer = fewer; before = xs; obtained = one.how; given = ys; ends = (rest, two.gives, list); steps_are = refl };
       kinds = only_both allocating ys xs (subst (Only allocating) (sym two.gives.steps_are) (refl, (refl, tt))) (obtained_kinds one.how);
-      few = λ k v h agreed.
-          let few = one.few k v h (agreed_later f v ys xs agreed) in
-          let fewer_left = unknown_no_more f ys _ (agreed_first f v ys xs agreed) in
-          let split : length (events_by k v (ys ++ xs)) ≡ length (events_by k (xs ++ v) ys) + length (events_by k v xs) = ap length (events_append k ys xs v) ∙ length-append _ _ in
-          let last : length (events_by k (xs ++ v) ys) ≡ 1 = ap length (give_event slots rest block ys two.gives k _) in
-          let left : unknown_pages f ((ys ++ xs) ++ v) ≡ unknown_pages f (ys ++ (xs ++ v)) = ap (unknown_pages f) (append_assoc ys xs v) in
-          record { paid = omega (arith, few.paid, fewer_left, split, last, left); most = omega (arith, few.most, split, last) };
+      few = search (arith, agreed_later, unknown_no_more, agreed_first, events_append, length-append, give_event, append_assoc);
       outcome = record {
         of_heap = two.gives.heap ∙ ap (λ x. x.heap) for.home;
         room = two.gives.room ∙ ap class_size for.class_is;
@@ -277,8 +270,7 @@ module _ (f : Profile) (k : ℕ) (l : Whole) (valid : IsValid f) (fill : Filling
       → IsTrueAfter (given ++ before) room
   answered_refused fewer locals' given before (Ok slots) room legal how ends = absurd ends
   answered_refused fewer locals' given before (Err why) room legal how ends =
-      subst (λ xs. IsTrueAfter (xs ++ before) room) (sym ends.2)
-      (subst (IsTrueAfter before) (sym ends.0) (obtained_refused fewer before why (legal_earlier f k given before l legal) how))
+      rw (ends.2, ends.0) (obtained_refused fewer before why (legal_earlier f k given before l legal) how)
 
   locals_refused : (locals' : List Slots) (steps : List Made) (room : NoRoom) → Legal f (triples k steps ++ l)
       → ServesLocals fill f locals locals' steps (Err room) → IsTrueAfter steps room

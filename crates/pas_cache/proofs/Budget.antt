@@ -1,10 +1,10 @@
 -- For callers: the room of one request after another.
-use Rattle.std.proofs.{Common.{refl, ◌≡◌, ℕ, ◌+◌, ◌≤◌, ◌++◌, length, sym, subst, arith, Option, Result, Bool, List}, lemmas.List.{length-map, length-reverse}}
+use Rattle.std.proofs.{Common.{◌≡◌, ℕ, ◌+◌, ◌≤◌, ◌++◌, length, arith, Option, Result, List}, lemmas.List.{length-map, length-reverse}}
 use Rattle.pas_profile.specs.declared.{profile.Profile.Profile, directory.Route.Route, event.NoRoom.NoRoom, name.Block.Block, entry.Entry.Entry}
-use Rattle.pas_cache.specs.{Serves.{Wanted, ServesBy}, Changes.EmptiesLog, Caches.{Cached, AtRest}, Calls.{MayAllocate, Allocates}}
+use Rattle.pas_cache.specs.{Serves.{Wanted, ServesBy}, Changes.EmptiesLog, Caches.{Cached, AtRest}, Calls.MayAllocate}
 use Rattle.pas_free_log.specs.declared.noting.EndedRun.{EndedRun}
-use Rattle.pas_steps.specs.{Views.View, Events.events_by, Unknown.unknown_pages, Desks.{Standing, Seat, CanCall, triples}, declared.step.Made.Made}
-use Rattle.pas_steps.proofs.{Adding.{adds_none, adds_under, can_call}, SpareRoom.{Spares, spare_falls}, Unknown.has_room}
+use Rattle.pas_steps.{specs.{Views.View, Events.events_by, Unknown.unknown_pages, Desks.{Standing, CanCall}, declared.step.Made.Made}, proofs.Adding.adds_none}
+use Rattle.pas_steps.proofs.{Adding.can_call, Unknown.has_room}
 
 -- The actor is at rest, and there is room for n events and for a deed of each page whose deed isn't known.
 pub record HasBudget (f : Profile) (c : Cached) (n spare : ℕ) (v : View) : Type 0 where
@@ -15,23 +15,6 @@ pub record HasBudget (f : Profile) (c : Cached) (n spare : ℕ) (v : View) : Typ
 pub may_allocate : {σ : Standing} {c : Cached} {spare : ℕ} (n : ℕ) → 2 ≤ n → CanCall σ (HasBudget σ.seat.profile c n spare)
     → CanCall σ (MayAllocate σ.seat.profile c spare)
 may_allocate {σ} {spare = spare} n two can = can_call adds_none can (λ v l stood met. record { rest = met.rest; room = has_room σ.seat.profile 2 spare v (omega (arith, two, met.room)) })
-
--- and the others are left after it
-pub budget_left : {σ σ' : Standing} {c c' : Cached} {answer : Result Block NoRoom} {wanted : Wanted} {spare spare' : ℕ} {tells : Bool} (n : ℕ)
-    → (h : Allocates wanted tells c c' σ σ' answer) → CanCall σ (HasBudget σ.seat.profile c (n + 2) spare)
-    → Spares σ spare → Spares σ' spare' → CanCall σ' (HasBudget σ'.seat.profile c' n spare')
-budget_left {σ} {c = c} {c' = c'} {spare = spare} {spare' = spare'} n h can law law' =
-    let k : ℕ = σ.seat.actor in
-    let v : View = can.view in
-    let ok = h.calls.adds.agreed v can.whole can.stood can.met.rest in
-    let left = spare_falls {C = HasBudget σ.seat.profile c (n + 2) spare} _ spare' _ (adds_under h.calls.adds (λ v l stood met. met.rest)) can law law' refl in
-    let few = (h.few k v can.met.rest ok).paid in
-    record {
-      view = h.steps ++ v;
-      whole = triples k h.steps ++ can.whole;
-      stood = h.calls.adds.added v can.whole can.stood can.met.rest;
-      met = subst (λ (s : Seat). HasBudget s.profile c' n spare' (h.steps ++ v)) (sym h.calls.adds.seat_is) (record { rest = h.calls.leads.from v can.met.rest ok; room = omega (arith, left, few, can.met.room) });
-    }
 
 -- no request changes the log
 pub log_kept : (f : Profile) (wanted : Wanted) (found : Option ℕ) (c c' : Cached) (steps : List Made) (answer : Result Block NoRoom) (route : Route)

@@ -1,6 +1,6 @@
 -- An epoch is read, a log is flushed, names are logged, a cache is stopped, and runs are handed on.
-use Rattle.std.proofs.Common.{◌≡◌, ℕ, [], sym, subst, arith, ◌+◌, ◌-◌, ◌*◌, ◌%◌, ◌^◌, ◌<◌, ◌≤◌, nat_le, Bool, List, ◌∷◌, ◌++◌, length, refl, ap, ◌∙◌}
-use Rattle.std.proofs.{Common.{length-append, All, Ok, Err, le-leb, leb-false}, lemmas.{List.Elements.{All-nil, All-push, All-same}, Bool.lt-leb}}
+use Rattle.std.proofs.Common.{◌≡◌, ℕ, [], sym, subst, arith, ◌+◌, ◌-◌, ◌*◌, ◌%◌, ◌^◌, ◌<◌, ◌≤◌, nat_le, List, ◌∷◌, ◌++◌, length, refl, ap, ◌∙◌, length-append}
+use Rattle.std.proofs.{Common.{All, Ok, Err, le-leb, leb-false}, lemmas.{List.Elements.{All-nil, All-push, All-same}, Bool.lt-leb}}
 use Rattle.pas_steps.specs.{Desks.{Standing, CanCall, Seat, Makes, made}, Views.View, Clear.{IsClear, HasNothing}, Kinds.looking, declared.step.Made.Made}
 use Rattle.pas_steps.{specs.{declared.step.Step.TheVariants.Look, Calls.{Leads, Calls, Does, nothing}}, proofs.Adding.{adds_none, adds_step, adds_under}}
 use Rattle.pas_steps.proofs.{Apart.no_events, Called.{call_none, call_then, next_call}, Calls.{does_none, does_idly}}

@@ -1,25 +1,25 @@
 -- Local allocators are stopped.
 use Rattle.std.proofs.Common.{length-append, ◌≡◌, ℕ, ◌+◌, ◌<◌, ◌≤◌, ◌==◌, true, false, List, [], ◌∷◌, ◌++◌, length, refl, ap, sym, ◌∙◌, subst, arith}
-use Rattle.std.proofs.Common.{true≢false, slice_index_or, remove, nat_le, le-leb, eqb-true, Bool, Ok, Err, Result, None, ◌≢◌, Some, inl, inr, append_assoc, ◌*◌}
-use Rattle.std.proofs.{Common.{◌/◌, ◌%◌, cond, Option, get_or, append-nil, All, MatchResult, not, ◌⊎◌, eq-eqb}, lemmas.Bool.{eqb-false, and_parts, and_from}}
-use Rattle.std.proofs.lemmas.{Bool.{or_parts, or_from, false_from_ne_true, cases_eq, cases_Bool}, List.Sorted.{IsPermutation-remove, length_permutation}}
-use Rattle.std.{proofs.{lemmas.{List.Elements.{All-head, All-tail}, Option.{cond_some, none-some}}, Math.Bool.not-not}, specs.List.Sorted.IsPermutation}
-use Rattle.std.specs.{List.{cons_option, list_any, AllByRecursion}, Result.result_ok}
+use Rattle.std.proofs.Common.{true≢false, slice_index_or, remove, le-leb, eqb-true, Bool, Ok, Err, Result, None, ◌≢◌, Some, inl, inr, append_assoc, get_or}
+use Rattle.std.proofs.{Common.{append-nil, All, not, ◌⊎◌, eq-eqb}, lemmas.Bool.{and_parts, and_from, or_parts, or_from, false_from_ne_true, cases_eq}}
+use Rattle.std.proofs.lemmas.{Bool.cases_Bool, List.{Sorted.{IsPermutation-remove, length_permutation}, Elements.{All-head, All-tail}}, Option.cond_some}
+use Rattle.std.{proofs.{lemmas.Option.none-some, Math.Bool.not-not}, specs.List.{Sorted.IsPermutation, cons_option, list_any, AllByRecursion}}
+use Rattle.std.specs.Result.{result_ok}
 use Rattle.pas_steps.specs.{Views.{View, known_deed, KnowsDeed}, Calls.{Calls, Leads}, Kinds.{Only, returning}, Agreement.Agreed, Events.{event_of, events_by}}
 use Rattle.pas_steps.specs.{Past.Once, Evidence.{Readings, IsAntitone}, Unknown.{unknown_pages, HasRoom}, Lists.Whole, Desks.{Standing, Seat, CanCall, Adds}}
 use Rattle.pas_steps.{specs.{Desks.triples, declared.step.{Made.Made, Step.{Step, TheVariants.Deed}}}, proofs.Adding.{adds_none, adds_under, can_call}}
 use Rattle.pas_steps.proofs.{Adding.{agreed_first, agreed_later, triples_append}, Apart.{only_both, only_within, no_events, events_same}, Called.call_none}
 use Rattle.pas_steps.proofs.{Called.{call_then, next_call}, SpareRoom.{Spares, spare_falls}, Unknown.{unknown_no_more, unknown_less, room_after}}
 use Rattle.pas_steps.proofs.{Frames.{events_append, deed_stays}, Events.each_event}
-use Rattle.pas_profile.specs.declared.{event.{Event.Event, NoRoom.NoRoom}, directory.{Directory.Directory, Kind.Kind}, profile.Profile.Profile}
-use Rattle.pas_profile.{specs.{Classes.IsClass, Directories.IsKind, Requests.kind_of_class, Profiles.IsPage}, proofs.Codecs.{same_from_deed_word, same_parts}}
+use Rattle.pas_profile.specs.{declared.{event.{Event.Event, NoRoom.NoRoom}, directory.Directory.Directory, profile.Profile.Profile}, Classes.IsClass}
+use Rattle.pas_profile.{specs.{Directories.IsKind, Requests.kind_of_class, Profiles.IsPage}, proofs.Codecs.{same_from_deed_word, same_parts}}
 use Rattle.pas_profile.proofs.Codecs.{deed_word_of-positive}
-use Rattle.pas_rights.specs.PutsBack.{giving_back, BackSteps}
+use Rattle.pas_rights.specs.PutsBack.{giving_back}
 use Rattle.pas_segregated.specs.{Stops.{home_of, StopStepsAt, MayStopAt, StopsAt, LeavesWhere}, declared.slots.Slots.Slots, Refills.{Filling, GetsSlots}}
 use Rattle.pas_segregated.{specs.{Refills.Refills, Masks.start_of}, proofs.Starts.start_below}
 use Rattle.pas_cache.specs.{Changes.{StopsFirst, StopsEach, IsShortened, LeavesSpent, IsTakenOut}, Kinds.releasing, Locals.{IsLocal, RestsWith, any_keeps}}
-use Rattle.pas_cache.specs.{Locals.{is_for, local_for, others_than, HasOneEach, IsPlaceOf}, Parts.{Rests, Releases, StopsPlace, MayObtain, IsFoundFor}}
-use Rattle.pas_cache.specs.{Parts.{BringsCached, Obtains, StandsLast, IsToldOf}, Serves.{IsFilling, IsRefill, IsFew, IsPreparing, MakesPlace, HasNoneCached}}
+use Rattle.pas_cache.specs.{Locals.{is_for, local_for, others_than, HasOneEach, IsPlaceOf}, Parts.{Rests, Releases, StopsPlace, MayObtain, BringsCached}}
+use Rattle.pas_cache.specs.{Parts.{Obtains, StandsLast, IsToldOf}, Serves.{IsFilling, IsRefill, IsFew, IsPreparing, MakesPlace, HasNoneCached}}
 use Rattle.pas_cache.proofs.Resting.{at_end, none_found, none_any, found_passes, at_place, none_left, here, may_stop, rests_stopped, rests_reordered}
 use Rattle.pas_cache.proofs.Resting.{rests_gained, rests_kept}
 use Rattle.pas_search.specs.{Searches.{MaySearch, SearchRoom, IsRefused, DeedMadeHere, FromOffered, ByDeed, FewEvents}, Kinds.{AreQuiet, IsDeedOrBack}}

@@ -10,15 +10,15 @@ use Rattle.arrayvec.proofs.ArrayVecLemmas.{items-with_items}
 use Rattle.pas_profile.specs.{Classes.{IsClass, class_grains, IsSlotStart}, Blocks.{grain_of, length_of}, declared.{name.Block.Block, profile.Profile.Profile}}
 use Rattle.pas_profile.{specs.declared.directory.Directory.Directory, proofs.Sizes.{class_size_whole, class_grains_positive, slot_end}}
 use Rattle.pas_profile.proofs.Codecs.{deed_word_of-positive}
-use Rattle.pas_bits.{specs.{Runs.in_run, Masks.{is_set, IsLowestSet, HasMember}}, proofs.Runs.{run_of, to_run}}
+use Rattle.pas_bits.{specs.{Runs.in_run, Masks.{is_set, IsLowestSet}}, proofs.Runs.{run_of, to_run}}
 use Rattle.pas_rights.{specs.Gives.{MayGive, give_steps, GivesRun}, proofs.Gives.may_give_on}
 use Rattle.pas_steps.specs.{Desks.{Standing, CanCall}, Agreement.Agreed, Views.{View, holds, knows_backed}, Calls.{Effect, Fate, Kept, Gained, Lost, now}}
 use Rattle.pas_steps.{specs.{Calls.{nothing, ClearAfter, Does}, declared.step.Made.Made}, proofs.{Called.call_as, Frames.deed_stays, Calls.does_then}}
 use Rattle.pas_steps.proofs.{Calls.{does_as, does_step}, Sets.given_fate}
 use Rattle.pas_segregated.specs.{Stops.{home_of, of_slots, MayStopAt, home_by}, declared.slots.Slots.Slots, Refills.{got, GetsSlots}, Masks.start_of}
 use Rattle.pas_segregated.proofs.Starts.{start_at, start_below}
-use Rattle.pas_cache.specs.{Locals.{covers, keeps_right, any_covers, any_keeps, is_for, local_for, IsLocal, AreApart, RestsWith}, Changes.IsWithoutSlot}
-use Rattle.pas_cache.specs.{Changes.GivesSlot, Parts.{MayGiveSlot, GivesLowest}}
+use Rattle.pas_cache.specs.{Locals.{covers, keeps_right, any_covers, any_keeps, local_for, IsLocal, AreApart, RestsWith}, Changes.{IsWithoutSlot, GivesSlot}}
+use Rattle.pas_cache.specs.Parts.{MayGiveSlot, GivesLowest}
 
 abbrev one_if : Bool → ℕ
 one_if t = cond t 1 0
@@ -116,10 +116,7 @@ module _ {X : Type 0} (test : X → Bool) where
       let later = at_place xs place d (omega (arith, lt)) is (one_fewer x xs one) in
       elim (cases_Bool _) [
         | inl passes ↦ let n = counted_is x xs passes in let none = none_count xs (omega (arith, n, one)) in let found = none.found in let other = later.0 in absurd (cc)
-        | inr fails ↦ (
-          ap (λ t. cond t (Some x) (find test xs)) fails ∙ later.0,
-          ap (λ t. cond (not t) (x ∷ filter (λ y. not (test y)) xs) (filter (λ y. not (test y)) xs)) fails ∙ ap (λ ys. x ∷ ys) later.1,
-        )
+        | inr fails ↦ search arith
       ]
 
   -- those that don't pass
@@ -225,18 +222,7 @@ module _ (slots : Slots) (start : ℕ) (lowest : IsLowestSet slots.starts 0 star
   gives_lowest {σ} slots' block is rest give = record {
     steps = give_steps slots.page start block give.word give.answer;
     calls = call_as (λ v w. block.name.turn < 2 ^ 37) give.calls (may_give _) (λ v w met gave. gave.turn);
-    gives = record {
-      start = start;
-      lowest = lowest;
-      rest = rest;
-      word = give.word;
-      answer = give.answer;
-      address = ap (λ b. b.name.address.0) give.block_is;
-      turn = ap (λ b. b.name.turn) give.block_is;
-      room = ap (λ b. b.room) give.block_is ∙ (let whole = class_size_whole slots.class is in omega (arith, whole));
-      heap = ap (λ b. b.heap) give.block_is;
-      steps_are = refl;
-    };
+    gives = search (arith, class_size_whole);
   }
 
 -- ==== At rest after a call.
@@ -359,8 +345,7 @@ rests_gained f d slots rest steps v h gains agreed here none no_right =
     (All-cons (IsLocal f (steps ++ v)) slots rest here later)
     (record {
       one_each = λ heap class. one_more _ slots rest (λ is. let pair = and_parts (slots.heap == heap) (slots.class == class) is in
-          (none_found _ rest (ap (λ n. local_for n class rest) (sym (eqb-true slots.heap heap pair.0))
-          ∙ (ap (λ n. local_for slots.heap n rest) (sym (eqb-true slots.class class pair.1)) ∙ none))).any) (h.apart.one_each heap class);
+          (none_found _ rest (cc (eqb-true slots.heap heap pair.0, eqb-true slots.class class pair.1))).any) (h.apart.one_each heap class);
       grains = λ g. one_more (λ t. covers t g) slots rest (λ mine. sym (h.grains g) ∙ gains.apart g mine) (h.apart.grains g);
       rights = λ page. one_more _ slots rest (λ keeps. no_right later page (and_parts slots.right (slots.page == page) keeps).1) (h.apart.rights page);
     })

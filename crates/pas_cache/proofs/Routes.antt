@@ -1,32 +1,30 @@
 -- By which route a request goes, and what requests for bit-fit pages and for whole pages do.
-use Rattle.std.proofs.Common.{◌≡◌, ℕ, ◌<◌, ◌≤◌, if◌then◌else◌, Option, None, sym, subst, arith, max, ◌+◌, ◌-◌, ◌*◌, ◌/◌, ◌%◌, ◌==◌, Bool, true, false, List, []}
+use Rattle.std.proofs.Common.{◌≡◌, ℕ, ◌<◌, ◌≤◌, if◌then◌else◌, Option, None, sym, subst, arith, ◌+◌, ◌-◌, ◌*◌, ◌/◌, ◌%◌, ◌==◌, Bool, true, false, List, []}
 use Rattle.std.proofs.Common.{◌++◌, length, Ok, Err, Result, refl, ap, ◌∙◌, length-append, ◌||◌, ◌∷◌, ◌⊎◌, inl, inr, append_assoc, true≢false, le-leb, eqb-true}
 use Rattle.std.proofs.{Common.{All, MatchResult, min}, lemmas.{Bool.{cases_Bool, and_parts, false_from_ne_true}, List.Elements.{All-head, All-tail}}}
 use Rattle.std.{proofs.Math.Nat.{le-max_right, zero-mod}, specs.List.AllByRecursion}
-use Rattle.pas_profile.specs.{Classes.{sizes_of, IsAlignment}, Profiles.IsPage, Blocks.{address_of, grain_of, length_of}, Routes.{first_class, route_with}}
-use Rattle.pas_profile.specs.{Routes.{route_of, room_by, room_of, IsRouteOf}, declared.directory.{Route.Route, Directory.Directory, Kind.Kind}}
-use Rattle.pas_profile.specs.{declared.{event.{NoRoom.NoRoom, Event.Event}, name.Block.Block, profile.Profile.Profile}, Requests.{is_shared, kind_of_class}}
-use Rattle.pas_profile.{specs.Requests.{kind_of_route, route_in, room_in}, proofs.{Sizes.{large_for, bitfit_suits, route_is}, Codecs.deed_word_of-positive}}
-use Rattle.pas_profile.proofs.Lists.{all_both, all_map}
+use Rattle.pas_profile.specs.{Classes.IsAlignment, Profiles.IsPage, Blocks.{address_of, grain_of, length_of}, Routes.{route_of, room_of, IsRouteOf}}
+use Rattle.pas_profile.specs.declared.{directory.{Route.Route, Directory.Directory, Kind.Kind}, event.{NoRoom.NoRoom, Event.Event}, name.Block.Block}
+use Rattle.pas_profile.{specs.{declared.profile.Profile.Profile, Requests.{is_shared, kind_of_class, kind_of_route, route_in, room_in}}, proofs.Sizes.large_for}
+use Rattle.pas_profile.proofs.{Sizes.{bitfit_suits, route_is}, Codecs.deed_word_of-positive, Lists.{all_both, all_map}}
 use Rattle.pas_cache.specs.Serves.{IsSmallRoute, Wanted, wanted_for, IsBlockFor, IsFew, IsSilent, IsToldBy, IsPreparing, IsDeedOf, MakesDeedsOf}
 use Rattle.pas_cache.specs.{Caches.{Cached, AtRest}, Kinds.allocating, Locals.{any_keeps, IsLocal, RestsWith}, Calls.{MayAllocate, Allocates as Serves}}
 use Rattle.pas_cache.specs.Calls.{MayAllocatePages, AllocatesPages, most_events, IsNamed, MayRequestBy, MayRequest, AllocatesBy, AllocatesRequest}
 use Rattle.pas_cache.proofs.{Obtained.{chosen_few, silent_few, prepared, no_right_of}, Resting.{locals_after, rests_by, rests_kept}}
 use Rattle.pas_bits.{specs.Runs.in_run, proofs.Runs.run_of}
 use Rattle.pas_steps.specs.{Agreement.Agreed, Calls.{Kept, Lost, now}, Events.events_by, Views.{View, KnowsDeed, known_deed}, Lists.Whole, Desks.Standing}
-use Rattle.pas_steps.specs.{Desks.{CanCall, triples}, Unknown.unknown_pages, Kinds.{returning, Only, Backing, looking, kind_of, is_in}, declared.step.Made.Made}
+use Rattle.pas_steps.specs.{Desks.CanCall, Unknown.unknown_pages, Kinds.{returning, Only, Backing, looking, kind_of, is_in}, declared.step.Made.Made}
 use Rattle.pas_steps.{specs.declared.step.Step.{Step, TheVariants.Deed}, proofs.Adding.{agreed_later, adds_under, agreed_first, adds_none, can_call}}
 use Rattle.pas_steps.proofs.{Apart.{only_both, only_within, events_same}, Calls.returns_are, Frames.events_append, Past.always_pair, Unknown.unknown_no_more}
 use Rattle.pas_steps.proofs.Events.{ComesOf, comes_of, each_event}
-use Rattle.pas_search.{proofs.ForBackEnds.events_quiet, specs.{Kinds.searching, Telling.IsTold, Allocates.{GaveBlock, IsGiven}, Searches.MaySearch}}
-use Rattle.pas_search.specs.Searches.{IsRefused, SearchRoom, search_steps}
+use Rattle.pas_search.{proofs.ForBackEnds.events_quiet, specs.{Kinds.searching, Telling.IsTold, Allocates.GaveBlock, Searches.{MaySearch, IsRefused}}}
+use Rattle.pas_search.specs.Searches.{SearchRoom}
 use Rattle.pas_segregated.specs.{declared.slots.Slots.Slots, Stops.home_of}
-use Rattle.pas_bitfit.specs.{Allocates.{bitfit_directory, run_for, IsOfRequest, IsAllocated, Allocates}, Runs.{NoneFits, runs, run_at}}
-use Rattle.pas_bitfit.proofs.Aligned.{stands_aligned}
+use Rattle.pas_bitfit.{specs.{Allocates.{bitfit_directory, run_for, IsAllocated, Allocates}, Runs.NoneFits}, proofs.Aligned.stands_aligned}
 use Rattle.pas_rights.{specs.Gives.give_steps, proofs.{Gives.covers, Orders.leave_returns}}
 use Rattle.pas_large.specs.{Allocates.{GaveLarge, IsServedNamed, IsScanned, AllocatesLarge}, Claims.in_span, Finds.{MayFind, FindRoom, finding}}
-use Rattle.pas_large.{specs.{Pages.OnlyDeedsShow, Named.missed_steps, Telling.IsToldByDoor}, proofs.Finds.{MadeOf, IsGivenRun, IsRefusedRun, HasEnded, ended}}
-use Rattle.pas_large.proofs.{Claims.in_parts, Gives.{run_is, back_events}, Allocates.scans_only}
+use Rattle.pas_large.{specs.{Pages.OnlyDeedsShow, Named.missed_steps}, proofs.{Finds.{MadeOf, IsGivenRun, IsRefusedRun, HasEnded, ended}, Claims.in_parts}}
+use Rattle.pas_large.proofs.{Gives.{run_is, back_events}, Allocates.scans_only}
 use Rattle.pas_scan.specs.Runs.{large_directory}
 
 -- ==== The route, by the size, in a region of so many classes.
@@ -146,8 +144,7 @@ module _ (f : Profile) (heap room align : ℕ) (locals : List Slots) (searched a
   bitfit_ends rests (Ok block) both = let is = both.0 in record {
     of_heap = ap (λ (b : Block). b.heap) is.block_is;
     room = both.1.room_is;
-    placed = subst (λ n. n % 4096 + block.room ≤ 4096) (sym (ap (λ (b : Block). address_of b.name) is.block_is))
-        (omega (arith, is.served.serves.chosen.this.within, ap (λ (b : Block). b.room) is.block_is, both.1.room_is));
+    placed = rw is.block_is (omega (arith, is.served.serves.chosen.this.within, ap (λ (b : Block). b.room) is.block_is, both.1.room_is));
     aligned = both.1.aligned;
     of_region = λ g inside. subst (IsPage f) (sym (search (arith, run_of, covers))) is.served.page;
     turn = record { from = λ v met agreed. (bitfit_gave block both v (rests v met) agreed).turn };
@@ -201,10 +198,7 @@ bitfit_allocates {σ} {σ'} size align heap tells c answer route both =
 pub bitfit_room : (classes size align : ℕ) → route_of classes size align ≡ Route.Bitfit
     → (16 ≤ room_of classes size align) × (room_of classes size align ≤ 2048) × (room_of classes size align % 16 ≡ 0)
 bitfit_room classes size align route =
-    let n : ℕ = max size 1 in
-    let small : n ≤ 2048 = omega (arith, (bitfit_suits classes size align route).0) in
-    let is : room_of classes size align ≡ (n + 16 - 1) / 16 * 16 = ap (λ (r : Route). room_by r n) route in
-    (omega (arith, is, le-max_right size 1), omega (arith, is, small), omega (arith, is))
+    search (arith, bitfit_suits, le-max_right)
 
 -- ==== A request for whole pages: the actor is at rest with the cache as it was.
 
@@ -371,11 +365,8 @@ pages_allocates {σ} {σ'} size align heap n found tells c answer is some alignm
       kinds = subst (Only allocating) (sym same) (kinds f heap n e.got e.after answer e.outcome e.kinds);
       short = (let missed = ap (missed_steps found) count in omega (arith, a.few, count, missed));
       few = λ k v met agreed.
-          subst (λ m. length (events_by k v (a.rest ++ a.tried)) + unknown_pages f ((a.rest ++ a.tried) ++ v) ≤ most_events m answer + unknown_pages f v) (sym count)
-          (subst (λ xs. length (events_by k v xs) + unknown_pages f (xs ++ v) ≤ most_events n answer + unknown_pages f v) (sym same)
-          (few f heap n e.got _ answer e.outcome e.shows k v (subst (Agreed f v) same agreed)));
+          rw (count, same) (few f heap n e.got _ answer e.outcome e.shows k v (subst (Agreed f v) same agreed));
       outcome = subst (λ xs. MatchResult answer (IsBlockFor f (record { directory = large_directory heap; route = Route.Large; room = n * 4096; align = align }) (AtRest f c) xs) (λ why. MakesDeedsOf (large_directory heap) xs)) (sym same)
           (ends f heap n e.got e.after {Meets = AtRest f c} align c.locals alignment e.kinds (λ v met. met.locals) answer e.outcome);
-      told = λ t v l stood met. subst (λ k. IsToldByDoor f (large_directory heap) k found l (triples σ.seat.actor (a.rest ++ a.tried) ++ l)
-          (a.rest ++ a.tried) answer) (sym count) (a.told t v l stood (may_find f v heap c.locals met.locals));
+      told = λ t v l stood met. rw count (a.told t v l stood (may_find f v heap c.locals met.locals));
     })

@@ -72,11 +72,6 @@ steps_by_fewer fewer more (t ∷ l) within = at (steps_by_fewer fewer more l wit
 pub no_steps_by_fewer : (fewer more : ℕ → Bool) (l : Whole) → Within fewer more → steps_by more l ≡ [] → steps_by fewer l ≡ []
 no_steps_by_fewer fewer more l within none = sym (steps_by_fewer fewer more l within) ∙ ap (steps_by fewer) none
 
--- the same actors, by another test
-pub steps_by_same : (one other : ℕ → Bool) (l : Whole) → ((k : ℕ) → one k ≡ other k) → steps_by one l ≡ steps_by other l
-steps_by_same one other [] same = refl
-steps_by_same one other (t ∷ l) same = search (arith, steps_by_same one other l same)
-
 -- ---- one actor, and all that made a step
 cons_not_nil : {x : Made} {xs : List Made} → x ∷ xs ≡ [] → ⊥
 cons_not_nil e = omega (arith, ap length e)

@@ -1,11 +1,11 @@
 -- Deed words and backed words: what of them stays, of which directories and pages they are, and that they are those of the machine.
-use Rattle.std.proofs.Common.{◌≡◌, ◌≢◌, ℕ, ◌==◌, Bool, true, false, if◌then◌else◌, [], ◌∷◌, refl, ap, sym, ◌∙◌, arith, ◌⊎◌, not, List, Option, Some, None}
-use Rattle.std.proofs.{Common.{bit_or, eqb-true, ne_eqb}, lemmas.Bool.{cases_eq, cond_both, Decides.nat_tests}}
+use Rattle.std.proofs.Common.{◌≡◌, ◌≢◌, ℕ, ◌==◌, Bool, true, if◌then◌else◌, [], ◌∷◌, refl, ap, ◌∙◌, arith, ◌⊎◌, not, List, Some, None, eqb-true, ne_eqb}
+use Rattle.std.proofs.lemmas.Bool.{cases_eq, cond_both, Decides.nat_tests}
 use Rattle.pas_profile.specs.{Directories.{IsKind, number_of, deed_word_of, deed_word_numbered}, Layouts.same_word, Profiles.{IsPage, IsDirectoryOf}}
 use Rattle.pas_profile.specs.declared.{profile.Profile.Profile, directory.Directory.Directory, word.Word.Word, event.Event.Event}
 use Rattle.pas_profile.proofs.Codecs.{kind_number_lt}
-use Rattle.pas_steps.specs.{Effects.{target, new_value}, Views.epoch_of, Allowed.IsStepOf, Agreement.IsDeedWord, Events.{event_of, with_event}, Lists.Triple}
-use Rattle.pas_steps.specs.{Lists.{Whole, part, word_after, Legal, visible}, declared.step.Step.{Step, TheVariants.{Deed, Back, End, EndSized}}}
+use Rattle.pas_steps.specs.{Effects.{target, new_value}, Agreement.IsDeedWord, Events.with_event, Lists.{Triple, Whole, word_after, Legal, visible}}
+use Rattle.pas_steps.specs.declared.step.Step.{Step, TheVariants.Deed}
 use Rattle.pas_machine.specs.State.{deed_in, backed_in}
 use Rattle.pas_core.specs.Good.{word_of_deed, word_of_backed}
 
@@ -97,11 +97,7 @@ directory_is_of f (t ∷ l) legal p d is = search (arith, directory_is_of f l le
 pub is_backed : (z : Bool) (b : Bool) (n : ℕ) → n ≡ word_of_backed b → (n == 0) ≡ z → b ≡ not z
 is_backed z b n h e = grind (arith, nat_tests)
 
--- A page whose backing ends is read so: whether it is this one or another.
-unback_agrees : (x : Bool) (old : ℕ) (was : Bool) → old ≡ word_of_backed was → (if x then 0 else old) ≡ word_of_backed (if x then false else was)
-unback_agrees x old was h = grind arith
-
 -- the backed word of a page says whether the machine has it backed
 pub backed_of : (f : Profile) (l : Whole) → Legal f l → (p : ℕ) → word_after l (Word.Backed p) ≡ word_of_backed (backed_in (visible l) p)
 backed_of f [] legal p = refl
-backed_of f (t ∷ l) legal p = search (arith, event_if, is_backed, eqb-true, end_event_cases, unback_agrees, backed_of f l legal.1 p)
+backed_of f (t ∷ l) legal p = search (arith, event_if, is_backed, eqb-true, end_event_cases, backed_of f l legal.1 p)

@@ -1,7 +1,6 @@
 -- Each grain is in exactly one place: free, held by one actor, or covered by one live block.
-use Rattle.std.proofs.Common.{◌≡◌, ℕ, ◌+◌, ◌-◌, ◌*◌, ◌/◌, ◌%◌, ◌^◌, ◌<◌, ◌≤◌, ◌==◌, nat_lt, nat_le, Bool, true, false, ◌&&◌, ◌||◌, if◌then◌else◌, [], ◌∷◌, refl}
-use Rattle.std.proofs.{Common.{ap, sym, ◌∙◌, arith, bit_or, eqb-true, le-leb}, lemmas.{Nat.Bits.bit_at_ones, Bool.{and_parts, lt-leb, cond_both}}}
-use Rattle.std.proofs.lemmas.Bool.Decides.{nat_tests}
+use Rattle.std.proofs.Common.{◌≡◌, ℕ, ◌+◌, ◌-◌, ◌*◌, ◌/◌, ◌%◌, ◌^◌, ◌<◌, ◌≤◌, ◌==◌, nat_lt, nat_le, Bool, true, false, ◌&&◌, if◌then◌else◌, [], ◌∷◌, refl, ap}
+use Rattle.std.proofs.{Common.{sym, ◌∙◌, arith, eqb-true, le-leb}, lemmas.{Nat.Bits.bit_at_ones, Bool.{and_parts, lt-leb, cond_both, Decides.nat_tests}}}
 use Rattle.pas_bits.{specs.{Bits.has_bit, Runs.in_run}, proofs.{Words.{bit_cleared, bit_of_or}, Runs.first_of_run}}
 use Rattle.pas_profile.specs.{Layouts.same_word, Lives.live_word, Profiles.IsValid, Blocks.grain_of, declared.{profile.Profile.Profile, name.Block.Block}}
 use Rattle.pas_steps.specs.{Effects.{free_word_at, life_word_at, target, new_value}, Views.{Move, Stays, Gets, Puts, Gives, Ends, grain_move, held_after}}
@@ -67,10 +66,6 @@ covered_next : (j : ℕ) (m : Move) (b : ℕ) (o : Place) → Fits j m o → cov
 covered_next j s b o h = grind (arith, if_true)
 
 -- ---- the free words
-put_free : (t : Bool) (old mask b : ℕ)
-    → has_bit (if t then bit_or old mask else old) b ≡ free_moved (if t && has_bit mask b then Puts else Stays) (has_bit old b)
-put_free t old mask b = grind (arith, bit_of_or)
-
 rests_free : (t was : Bool) (m : Move) → free_moved m was ≡ was → was ≡ free_moved (if t then m else Stays) was
 rests_free t was m h = cond_both t m Stays (λ x. was ≡ free_moved x was) (λ here. sym h) (λ other. refl)
 
@@ -78,7 +73,7 @@ rests_free t was m h = cond_both t m Stays (λ x. was ≡ free_moved x was) (λ 
 pub free_step : (f : Profile) (l : Whole) (e : ℕ) (s : Step) (a g : ℕ) → IsStepOf f s → a ≡ word_after l (target s)
     → has_bit (if same_word (target s) (free_word_at g) then new_value e s (word_after l (free_word_at g)) else word_after l (free_word_at g)) (g % 64)
     ≡ free_moved (grain_move s a g) (has_bit (word_after l (free_word_at g)) (g % 64))
-free_step f l e s a g of is = search (arith, bit_cleared, and_parts, eqb-true, put_free, rests_free)
+free_step f l e s a g of is = search (arith, bit_cleared, and_parts, eqb-true, bit_of_or, rests_free)
 
 -- ---- the life words
 pub covers_live : (turn n b g : ℕ) → turn < 2 ^ 40 → n < 2 ^ 23 → covers (live_word turn n) b g ≡ in_run b n g
@@ -95,9 +90,6 @@ not_covering : (f : Profile) (l : Whole) (k : ℕ) (block : Block) (g : ℕ) →
     → covers (word_after l (life_word_at (grain_of block.name))) (grain_of block.name) g ≡ false
 not_covering f l k block g at allowed = search (arith, is_held_by-true, first_of_run, some_grain, nat_tests)
 
-rests_covered : (t was : Bool) (m : Move) (b : ℕ) → covered_moved m b was ≡ was → was ≡ covered_moved (if t then m else Stays) b was
-rests_covered t was m b h = cond_both t m Stays (λ x. was ≡ covered_moved x b was) (λ here. sym h) (λ other. refl)
-
 give_covers : (x y : Bool) (c b g turn n old : ℕ) → y ≡ (c == b) → (c == b) ≡ x → turn < 2 ^ 40 → n < 2 ^ 23 → (x ≡ true → covers old b g ≡ false) → (r : Bool)
     → in_run c n g ≡ r
     → covers (if y then live_word turn n else old) b g ≡ covered_moved (if r then Gives c else Stays) b (covers old b g)
@@ -110,7 +102,7 @@ covered_step : (f : Profile) (l : Whole) (k e : ℕ) (s : Step) (a g b : ℕ) �
 covered_step f l k e (Give block) a g b valid placed of allowed is = give_covers _ _ _ b g block.name.turn _ _ (life_same _ b) refl
     of.turn (give_short f _ block.room valid of.last)
     (λ e. ap (λ x. covers (word_after l (life_word_at x)) x g) (sym (eqb-true _ b e)) ∙ not_covering f l k block g (placed (grain_of block.name)) allowed) _ refl
-covered_step f l k e s a g b valid placed of allowed is = search (arith, looked, rests_covered, life_same, covers_ended, eqb-true, covers_live, guess_fits)
+covered_step f l k e s a g b valid placed of allowed is = search (arith, looked, cond_both, life_same, covers_ended, eqb-true, covers_live, guess_fits)
 
 -- ---- a legal step's move fits
 fits_if : (j : ℕ) (m : Move) (o : Place) (t : Bool) → (t ≡ true → Fits j m o) → Fits j (if t then m else Stays) o
@@ -135,8 +127,7 @@ placed_once f (t ∷ l) valid legal g =
     record {
       place = place_after t.actor m at.place;
       free = free_step f l e _ _ g next.of_region next.answer_is ∙ ap (free_moved m) at.free ∙ free_next _ m at.place fits;
-      held = λ k. cond_both (t.actor == k) (t.made ∷ part k l) (part k l) (λ v. holds v g ≡ is_held_by k (place_after t.actor m at.place))
-          (own_next m at.place _ k _ (at.held k)) (other_next m at.place _ k _ (at.held k) fits);
+      held = λ k. search (arith, cond_both, own_next, other_next, at.held);
       covered = λ b. covered_step f l _ e _ _ g b valid (placed_once f l valid legal.1) next.of_region next.allowed next.answer_is ∙ ap (covered_moved m b) (at.covered b) ∙ covered_next _ m b at.place fits;
     }
 

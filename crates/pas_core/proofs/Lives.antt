@@ -1,6 +1,6 @@
 -- Life words: the blocks that live, those that were given, and their turns.
 use Rattle.std.proofs.Common.{◌≡◌, ◌≢◌, ℕ, ◌+◌, ◌-◌, ◌*◌, ◌/◌, ◌%◌, ◌^◌, ◌<◌, ◌≤◌, ◌==◌, Bool, true, false, ◌&&◌, if◌then◌else◌, List, [], ◌∷◌, Option, Some}
-use Rattle.std.proofs.Common.{None, refl, ap, sym, ◌∙◌, subst, arith, inl, inr, ◌++◌, length, zero, suc, eqb-true, eq-eqb, le-leb, max, ◌⊎◌, w64}
+use Rattle.std.proofs.Common.{None, refl, ap, sym, ◌∙◌, subst, arith, inl, inr, ◌++◌, length, zero, suc, eqb-true, eq-eqb, le-leb, w64}
 use Rattle.std.proofs.lemmas.Bool.{false≢true, cases_eq, and_parts, cond_both, eqb-false, and_from, false_from_ne_true, cases_Bool, Decides.nat_tests}
 use Rattle.std.{proofs.lemmas.{Option.{same_Some, none-some}, Nat.{and_le_l, or_lt}}, specs.Int.bit_not}
 use Rattle.pas_profile.specs.{Layouts.same_word, Lives.{live_word, is_live, turn_of}, Profiles.{IsValid, IsDirectoryOf}, Blocks.{address_of, grain_of}}
@@ -8,12 +8,12 @@ use Rattle.pas_profile.specs.{Blocks.length_of, Directories.deed_word_of, declar
 use Rattle.pas_profile.{specs.declared.{event.Why.Why, directory.Directory.Directory, word.Word.Word}, proofs.Codecs.kind_number_lt}
 use Rattle.pas_bits.{specs.{Runs.{in_run, meets_page}, PageVectors.page_mask}, proofs.{Runs.{first_of_run, IsMet, met}, PageVectors.page_mask_lt}}
 use Rattle.pas_machine.specs.{State.{Live, live_in, gives_in, ends_in, touches, epoch_in}, Machine.{Admits, Run}, Totals.sum_below}
-use Rattle.pas_steps.specs.{Effects.{life_word_at, target, new_value}, Allowed.{Allowed, IsStepOf, HoldsOn}, Views.{View, Move, Stays, Gives, Ends, grain_move}}
+use Rattle.pas_steps.specs.{Effects.{life_word_at, target, new_value}, Allowed.{Allowed, IsStepOf, HoldsOn}, Views.{View, Move, Stays, Ends, grain_move}}
 use Rattle.pas_steps.specs.Views.{held_after, holds, epoch_of, life_after, known_life, given_after, given_count, holds_all, stamp_after, known_stamp}
 use Rattle.pas_steps.specs.{Views.{unstamped_after, is_unstamped, ends_on}, Events.{event_of, with_event}, Lists.{Whole, word_after, part, visible, IsNext}}
 use Rattle.pas_steps.specs.{Lists.{Legal, Triple}, declared.step.Step.{Step, TheVariants.{Back, Give, End, Take, TakeRight, Unpark, Stamp, Tick, Unhint}}}
 use Rattle.pas_steps.{specs.Desks.made, proofs.{Parts.each_part, Bits.all_below-at, Flags.{stays_set, was_set}}}
-use Rattle.pas_core.specs.{Good.{Place, Held, is_held_by, covers, IsPlacedOnce, IsLifeOf, IsLifeOfLive, IsBare}, Given.WasGiven, Stamps.{EachEnd, IsStampedOr}}
+use Rattle.pas_core.specs.{Good.{Place, Held, is_held_by, IsPlacedOnce, IsLifeOf, IsLifeOfLive, IsBare}, Given.WasGiven, Stamps.{EachEnd, IsStampedOr}}
 use Rattle.pas_core.{specs.Stamps.AllKeepToEnds, proofs.Grains.{life_same, give_short, is_held_by-true, covers_live, some_grain, step_fits, placed_once}}
 use Rattle.pas_core.proofs.{Grains.one_holder, Deeds.{event_if, end_event_cases, looked, next_value}}
 
@@ -27,10 +27,6 @@ as_test y x P new old e h = subst (λ t. P (if t then new else old)) (sym e) h
 abbrev pub is_still : Move → Bool
 is_still Stays = true
 is_still s = false
-
-give_rests : (x r : Bool) (c g n old new : ℕ) → (c == g) ≡ x → 0 < n → in_run c n g ≡ r → is_still (if r then Gives c else Stays) ≡ true
-    → (if x then new else old) ≡ old
-give_rests x r c g n old new xe some re still = grind (arith, false≢true, eqb-true, first_of_run)
 
 -- the word of a step on the grain's life word
 pub word_is : (l : Whole) (a c g : ℕ) → a ≡ word_after l (life_word_at c) → (c == g) ≡ true → a ≡ word_after l (life_word_at g)
@@ -54,7 +50,7 @@ TellsLife v g word = (w : ℕ) → known_life v g ≡ Some w → (holds v g ≡ 
 -- the life word of a grain that a step doesn't move
 rests_at : (f : Profile) (t : Triple) (l : Whole) (g : ℕ) → Legal f (t ∷ l) → is_still (grain_move t.made.step t.made.answer g) ≡ true
     → word_after (t ∷ l) (life_word_at g) ≡ word_after l (life_word_at g)
-rests_at f t l g legal = λ still. search (arith, as_test, life_same, give_rests, some_grain, false≢true, eqb-true, first_of_run)
+rests_at f t l g legal = λ still. search (arith, as_test, life_same, some_grain, false≢true, eqb-true, first_of_run)
 
 -- What a view knows of a life word is the word, and its actor holds the grain.
 pub life_is_known : (f : Profile) (l : Whole) → IsValid f → Legal f l → (k g : ℕ) → TellsLife (part k l) g (word_after l (life_word_at g))
@@ -102,15 +98,10 @@ life_step : (f : Profile) (l : Whole) (k e : ℕ) (s : Step) (a g : ℕ) → IsV
     (with_event (event_of k e s a) (visible l)) (16 * g)
 life_step f l k e s a g valid of allowed is dead tells h = search (arith, event_if, address_same, eqb-true, first_of_run, some_grain, turn_is, as_test, life_same, give_short, end_life)
 
--- a grain of a live block is covered
-live_covers : (f : Profile) (g word : ℕ) (b : Live) (gives ends x : ℕ) → IsLifeOfLive f g word b gives ends → in_run g (length_of b.block) x ≡ true
-    → covers word g x ≡ true
-live_covers f g word b gives ends x h run = ap (λ w. covers w g x) h.word_is ∙ covers_live ends (length_of b.block) g x h.few h.short ∙ run
-
 -- no live block has a grain that an actor holds
 pub no_block : (f : Profile) (l : Whole) (k a x : ℕ) (b : Live) (gives ends : ℕ) → IsPlacedOnce l x → holds (part k l) x ≡ true
     → IsLifeOfLive f a (word_after l (life_word_at a)) b gives ends → in_run a (length_of b.block) x ≡ true → ⊥
-no_block f l k a x b gives ends at holds life run = search (arith, is_held_by-true, false≢true, live_covers)
+no_block f l k a x b gives ends at holds life run = search (arith, is_held_by-true, false≢true, covers_live)
 
 -- Where an actor holds a grain, no block lives that begins there.
 pub dead_while_held : (f : Profile) (l : Whole) (k g : ℕ) (live : Option Live) (gives ends : ℕ) → IsPlacedOnce l g → holds (part k l) g ≡ true
@@ -131,12 +122,9 @@ life_of f (t ∷ l) valid legal g =
 abbrev BareIn : List Event → ℕ → Type 0
 BareIn es address = IsBare address (live_in es address) (gives_in es address) (ends_in es address)
 
-other_address : (b address : ℕ) → b % 16 ≡ 0 → address % 16 ≢ 0 → (x : Bool) → (b == address) ≡ x → x ≡ false
-other_address b address h e x k = grind (arith, nat_tests)
-
 bare_step : (f : Profile) (v : View) (k e : ℕ) (s : Step) (a : ℕ) (es : List Event) (address : ℕ) → IsStepOf f s → Allowed f v s → address % 16 ≢ 0
     → BareIn es address → BareIn (with_event (event_of k e s a) es) address
-bare_step f v k e s a es address of allowed un h = search (arith, event_if, false≢true, other_address, end_event_cases)
+bare_step f v k e s a es address of allowed un h = search (arith, event_if, false≢true, nat_tests, end_event_cases)
 
 -- No block ever began at an address that isn't a multiple of 16.
 pub bare_of : (f : Profile) (l : Whole) → Legal f l → (address : ℕ) → address % 16 ≢ 0
@@ -236,10 +224,8 @@ all_gives f (t ∷ l) legal =
     let actor : t.actor < f.threads + 1 = omega (arith, legal.0.actor) in
     let is : count_gives (visible (t ∷ l)) ≡ given_after t.made.step (count_gives (visible l)) = (grind (arith, event_if, end_event_cases)) in
     let rises : sum_below (f.threads + 1) (λ k. given_count (part k l)) + given_after t.made.step 0 ≤ sum_below (f.threads + 1) (λ k. given_count (part k (t ∷ l)))
-    = sum_rises (f.threads + 1) _ _ (λ k. given_count (part k l)) (λ k. given_count (part k (t ∷ l))) (λ k. cond_both (t.actor == k) (t.made ∷ part k l)
-    (part k l) (λ v. given_count (part k l) ≤ given_count v) (λ own. grind arith) (λ other. omega arith))
-    (subst (λ b. given_count (part t.actor l) + given_after t.made.step 0 ≤ given_count (if b then t.made ∷ part t.actor l else part t.actor l))
-    (sym (eq-eqb _ _ refl)) (grind arith)) actor in
+    = sum_rises (f.threads + 1) _ _ (λ k. given_count (part k l)) (λ k. given_count (part k (t ∷ l))) (λ k. search (arith, cond_both))
+    (search (arith, eq-eqb)) actor in
     grind (arith, all_gives f l legal.1, is, rises)
 
 -- ---- turns
@@ -381,9 +367,7 @@ stamp_next e s p old = grind (arith, looked, cond_both)
 pub ends_stamped : (f : Profile) (l : Whole) → IsValid f → Legal f l → (p : ℕ) → EachEnd (IsStampedOr l p) (visible l) p
 ends_stamped f [] valid legal p = tt
 ends_stamped f (t ∷ l) valid legal p =
-    let next : IsNext f l t = legal.0 in
-    ends_step f l valid legal.1 _ _ _ _ _ p next.of_region next.answer_is (λ h. search (arith, eq-eqb, false≢true))
-    (ends_map _ _ _ p (λ k n before. search (arith, stamp_next, epoch_known, cond_both, eqb-true, stays_set)) (ends_stamped f l valid legal.1 p))
+    search (arith, ends_step, eq-eqb, ends_map, stamp_next, epoch_known, cond_both, eqb-true, stays_set, (ends_stamped f l valid legal.1 p))
 
 -- ---- the machine's epoch of a page
 ends_bound : (es : List Event) (p n : ℕ) → EachEnd (λ k e. e ≤ n) es p → epoch_in es p ≤ n
@@ -416,12 +400,6 @@ touched_by_end f l valid legal name guess a p of is hit meets =
     ap (λ o. touches o p) at.lives ∙ ap (λ n. meets_page (address_of at.block.block.name / 16) n p) at.grains_are ∙ ap (λ g. meets_page g guess p) first ∙ meets
 
 -- ---- steps
-stamp_value : (e : ℕ) (s : Step) (p old : ℕ) → next_value e s (Word.Stamp p) old ≤ max old e
-stamp_value e s p old = grind (arith, looked, cond_both)
-
-was_or_ends : (s : Step) (a p : ℕ) (was : Bool) → unstamped_after s a p was ≡ true → (was ≡ true) ⊎ (ends_on s a p ≡ true)
-was_or_ends s a p was h = grind (arith, was_set)
-
 -- ---- the induction
 -- the stamp is the epoch of some end, and so is what an actor knows while the page is unstamped for it
 record IsExact (l : Whole) (p : ℕ) : Type 0 where
@@ -439,21 +417,14 @@ exact f (t ∷ l) valid legal keeps p =
     let e : ℕ = epoch_of (part t.actor l) in
     let more : epoch_in (visible l) p ≤ epoch_in (visible (t ∷ l)) p = (grind (arith, cond_both)) in
     let own : is_unstamped (t.made ∷ part t.actor l) p ≡ true → epoch_of (t.made ∷ part t.actor l) ≤ epoch_in (visible (t ∷ l)) p =
-    search (arith, false≢true, was_or_ends, and_parts, cond_both, touched_by_end) in
-    record {
-      stamp = search (arith, cases_Bool, eqb-true, false≢true, stamp_value, looked);
-      late = λ k. cond_both (t.actor == k) (t.made ∷ part k l) (part k l) (λ v. is_unstamped v p ≡ true → epoch_of v ≤ epoch_in (visible (t ∷ l)) p)
-          (λ here. subst (λ j. is_unstamped (t.made ∷ part j l) p ≡ true → epoch_of (t.made ∷ part j l) ≤ epoch_in (visible (t ∷ l)) p) (eqb-true _ k here) own)
-          (λ other h. let le = before.late k h in omega (arith, le, more));
-    }
+    search (arith, false≢true, was_set, and_parts, cond_both, touched_by_end) in
+    search (arith, cases_Bool, eqb-true, looked, cond_both, before.late)
 
 -- the stamp of a page is the greatest epoch of an end on it, once the page is unstamped for nobody
 pub stamps_are_ends : (f : Profile) (l : Whole) → IsValid f → Legal f l → AllKeepToEnds l → (p : ℕ) → ((k : ℕ) → is_unstamped (part k l) p ≡ false)
     → word_after l (Word.Stamp p) ≡ epoch_in (visible l) p
 stamps_are_ends f l valid legal keeps p settled =
     let at : IsExact l p = exact f l valid legal keeps p in
-    let least : epoch_in (visible l) p ≤ word_after l (Word.Stamp p) = ends_bound _ p _ (ends_map _ (λ j e. e ≤ word_after l (Word.Stamp p)) _ p (λ j n late. elim late [
-      | inl le ↦ le
-      | inr un ↦ absurd (false≢true (sym (settled j) ∙ un.0))
-    ]) (ends_stamped f l valid legal p)) in
+    let least : epoch_in (visible l) p ≤ word_after l (Word.Stamp p) = ends_bound _ p _
+    (ends_map _ (λ j e. e ≤ word_after l (Word.Stamp p)) _ p (λ j n late. search arith) (ends_stamped f l valid legal p)) in
     omega (arith, at.stamp, least)

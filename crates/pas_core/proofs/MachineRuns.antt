@@ -1,8 +1,8 @@
 -- The machine behind a legal list: its visible events are a run, the words are those of the machine, each grain is in one place in the machine's words,
 -- and in some list a page is unbacked.
-use Rattle.std.proofs.Common.{◌≡◌, ◌≢◌, ℕ, ◌+◌, ◌-◌, ◌*◌, ◌/◌, ◌%◌, ◌^◌, ◌<◌, ◌≤◌, ◌==◌, Bool, true, false, ◌&&◌, if◌then◌else◌, List, [], ◌∷◌, Option, Some}
-use Rattle.std.proofs.{Common.{None, refl, ap, sym, ◌∙◌, arith, inl, inr, max, eqb-true, eq-eqb, leb-true}, lemmas.Bool.{false≢true, eqb-false, and_parts}}
-use Rattle.std.proofs.lemmas.{Bool.{and_from, cond_both, false_from_ne_true, cases_eq, Decides.nat_tests}, Nat.Bits.bit_at_ones}
+use Rattle.std.proofs.Common.{◌≡◌, ◌≢◌, ℕ, ◌+◌, ◌-◌, ◌*◌, ◌/◌, ◌%◌, ◌^◌, ◌<◌, ◌==◌, Bool, true, false, ◌&&◌, if◌then◌else◌, List, [], ◌∷◌, Option, Some, None}
+use Rattle.std.proofs.{Common.{refl, ap, sym, ◌∙◌, arith, inl, inr, max, eqb-true, eq-eqb, leb-true}, lemmas.Bool.{false≢true, eqb-false, and_parts, and_from}}
+use Rattle.std.proofs.lemmas.{Bool.{cond_both, false_from_ne_true, cases_eq, Decides.nat_tests}, Nat.Bits.bit_at_ones}
 use Rattle.pas_profile.specs.{Directories.deed_word_of, Profiles.{IsValid, IsPage, IsDirectoryOf}, Blocks.{address_of, grain_of, length_of}, Lives.live_word}
 use Rattle.pas_profile.specs.{Lives.{is_live, turn_of, grains_of}, declared.{profile.Profile.Profile, directory.{Directory.Directory, Kind.TheVariants.Large}}}
 use Rattle.pas_profile.{specs.declared.{name.{Block.Block, Name.Name}, word.Word.Word, event.{Event.Event, Why.Why}}, proofs.Codecs.kind_number_lt}
@@ -162,16 +162,7 @@ in_place f l g legal (Held k) free held parts lives = inr (inl (record { actor =
 in_place f l g legal (Covered a) free held parts lives =
     let found : LivesAt l a = lives a refl in
     let own : 16 * a / 16 ≡ a = omega arith in
-    inr (inr (record {
-      address = 16 * a;
-      block = found.block;
-      lives = found.lives;
-      covered = parts (16 * a) found.block found.lives ∙ eq-eqb a _ (sym own);
-      not_free = free;
-      nobody = held;
-      one = λ other b is here.
-          omega (arith, eqb-true a (other / 16) (sym (parts other b is) ∙ here), live_is_aligned f l legal other b is);
-    }))
+    inr (inr (search (arith, eq-eqb, eqb-true, live_is_aligned)))
 
 -- after every legal list each grain is free, or held by one actor, or part of one live block
 pub in_one_place : (f : Profile) (l : Whole) → IsValid f → Legal f l → (g : ℕ) → IsInOnePlace l g

@@ -109,14 +109,10 @@ ended_has_heap f l valid legal k page other h =
 deed_more : (x : Bool) (d : Directory) (old : Option Directory) → old ≢ None → (if x then Some d else old) ≢ None
 deed_more x d old h = grind arith
 
-back_has : (x : Bool) (q p : ℕ) (es : List Event) (old : Bool) → (q == p) ≡ x → deed_in es q ≢ None → (old ≡ true → deed_in es p ≢ None)
-    → (if x then true else old) ≡ true → deed_in es p ≢ None
-back_has x q p es old e here before h = grind (arith, eqb-true)
-
 backed_deed : (f : Profile) (es : List Event) → Run f es → (p : ℕ) → backed_in es p ≡ true → deed_in es p ≢ None
 backed_deed f [] run p h = absurd (false≢true h)
 backed_deed f (Event.Deed k q d ∷ es) run p h = deed_more (q == p) d (deed_in es p) (backed_deed f es run.1 p h)
-backed_deed f (Event.Back k q ∷ es) run p h = back_has (q == p) q p es (backed_in es p) refl run.0.1 (backed_deed f es run.1 p) h
+backed_deed f (Event.Back k q ∷ es) run p h = grind (arith, eqb-true, run.0.1, (backed_deed f es run.1 p))
 backed_deed f (Event.Unback k q e ∷ es) run p h = backed_deed f es run.1 p (was_set (q == p) (backed_in es p) h)
 backed_deed f (e ∷ es) run p h = backed_deed f es run.1 p h
 

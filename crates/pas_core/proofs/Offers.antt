@@ -229,10 +229,7 @@ lone_place : (f : Profile) (l : Whole) (k : ℕ) (steps : List Made) (p : ℕ) �
 lone_place f l k steps p nobody deed lacks (inl none) = absurd (deed none.no_deed)
 lone_place f l k steps p nobody deed lacks (inr (inl one)) =
     let has : has_right (part one.actor (triples k steps ++ l)) p ≡ true = one.holder one.actor ∙ eq-eqb one.actor one.actor refl in
-    elim (cases_eq k one.actor) [
-      | inl same ↦ absurd (false≢true (sym lacks ∙ ap (λ j. has_right (part j (triples k steps ++ l)) p) same ∙ has))
-      | inr ne ↦ absurd (false≢true (sym (nobody one.actor) ∙ ap (λ v. has_right v p) (sym (part_of_others one.actor k steps l ne)) ∙ has))
-    ]
+    search (arith, cases_eq, part_of_others)
 lone_place f l k steps p nobody deed lacks (inr (inr (inl offers))) = inl offers
 lone_place f l k steps p nobody deed lacks (inr (inr (inr parks))) = inr parks
 

@@ -14,8 +14,8 @@ use Rattle.pas_profile.specs.declared.{profile.Profile.Profile, event.{Event.Eve
 use Rattle.pas_profile.proofs.Codecs.{deed_word_of-positive, numbered}
 use Rattle.pas_steps.specs.{Effects.{target, new_value, free_word_at}, Desks.{triples, triple}, Past.{Once, Always}, Events.event_of, Allowed.Allowed}
 use Rattle.pas_steps.specs.{Agreement.Agrees, Views.{epoch_of, View, Move, Stays, Gets, Puts, Gives, Ends, grain_move, held_after, holds, way, had_after}}
-use Rattle.pas_steps.specs.{Views.{has_right, deed_after, known_deed, KnowsDeed}, Lists.{Whole, part, word_after, Legal}, Kinds.{Kinds, kind_of, is_in, apart}}
-use Rattle.pas_steps.specs.{Kinds.{Only, Taking, Claiming, Deeding, lending}, declared.step.{Made.Made, Step.{Step, TheVariants.Deed}}, Evidence.Readings}
+use Rattle.pas_steps.specs.{Views.{has_right, known_deed, KnowsDeed}, Lists.{Whole, part, word_after, Legal}, Kinds.{Kinds, kind_of, is_in, apart, Only}}
+use Rattle.pas_steps.specs.{Kinds.{Taking, Claiming, Deeding, lending}, declared.step.{Made.Made, Step.{Step, TheVariants.Deed}}, Evidence.Readings}
 use Rattle.pas_steps.specs.Evidence.{IsAntitone, ReadsFree, ReadsDeed, ShowsHere, KeptHere, UnfitHere, DeedHere, ReadsEligible, ReadsParked, ZeroHere, OneHere}
 use Rattle.pas_steps.{specs.Evidence.{ParkedHere, LacksAfter, Searched, AllDeeds}, proofs.{Apart.in_apart, Past.{since_once, always_map, once_map}}}
 use Rattle.pas_steps.proofs.{Parts.{part_of_own, part_of_others, each_part}, Adding.triples_append, Frames.{right_own, right_of_own, lacks_now, deed_stays}}
@@ -87,12 +87,9 @@ free_or_held f k l g (m ∷ xs) legal lends free =
 abbrev pub Used : ℕ → Whole → ℕ → List Made → Type 0
 Used k l g xs = (bit_of (triples k xs ++ l) g ≡ false) × (holds (xs ++ part k l) g ≡ false)
 
-held_own : (k : ℕ) → is_held_by k (Held k) ≡ true
-held_own k = eq-eqb k k refl
-
 used_move : (k : ℕ) (m : Move) (o : Place) (bit held : Bool) → IsPlain m → Fits k m o → is_free o ≡ false → is_held_by k o ≡ false → bit ≡ false → held ≡ false
     → (free_moved m bit ≡ false) × (held_after m held ≡ false)
-used_move k s o bit held plain fits not_free not_held b h = grind (arith, true≢false, held_own)
+used_move k s o bit held plain fits not_free not_held b h = grind (arith, true≢false, eq-eqb)
 
 used_next : (f : Profile) (k : ℕ) (l : Whole) (g : ℕ) (m : Made) (xs : List Made) → IsValid f → Legal f (triples k (m ∷ xs) ++ l)
     → is_in lending (kind_of m.step) ≡ false → Used k l g xs → Used k l g (m ∷ xs)
@@ -312,12 +309,9 @@ deed_later k l p [] some = refl
 deed_later k l p (m ∷ xs) some = let e = deed_later k l p xs some in deed_kept (triples k xs ++ l) (triple k m) p (λ z. some (sym e ∙ z)) ∙ e
 
 -- ---- an actor that has a right knows the page's deed
-gains_known : (f : Profile) (v : View) (s : Step) (a p : ℕ) → Allowed f v s → had_after (way s a p) false ≡ true → deed_after s a p (known_deed v p) ≢ 0
-gains_known f v s a p allowed h = search (arith, and_parts, false≢true, deed_word_of-positive, cond_both, numbered_ne, eqb-true)
-
 own_known : (f : Profile) (v : View) (m : Made) (p : ℕ) → Allowed f v m.step → Agrees f v m.step m.answer → (has_right v p ≡ true → known_deed v p ≢ 0)
     → (had : Bool) → has_right v p ≡ had → had_after (way m.step m.answer p) had ≡ true → known_deed (m ∷ v) p ≢ 0
-own_known f v m p allowed agrees known had e h = grind (arith, deed_stays, gains_known)
+own_known f v m p allowed agrees known had e h = grind (arith, deed_stays, and_parts, false≢true, deed_word_of-positive, cond_both, numbered_ne, eqb-true)
 
 right_known : (f : Profile) (l : Whole) → IsValid f → Legal f l → (k p : ℕ) → has_right (part k l) p ≡ true → known_deed (part k l) p ≢ 0
 right_known f l valid legal k p = each_part f (λ l k v. has_right v p ≡ true → known_deed v p ≢ 0) (λ k h. absurd (false≢true h))

@@ -1,17 +1,17 @@
 -- Rights and what views know: where the right of a page is, the bits of page vectors that are set, and that what views know of deeds, of free grains and
 -- of backed pages is true.
-use Rattle.std.proofs.Common.{◌≡◌, ◌≢◌, ℕ, ◌/◌, ◌%◌, ◌==◌, Bool, true, false, ◌&&◌, if◌then◌else◌, [], ◌∷◌, refl, ap, sym, ◌∙◌, subst, inl, inr, arith, ◌^◌}
-use Rattle.std.proofs.{Common.{◌<◌, not, ◌||◌, bit_or, ◌+◌, ◌*◌, ◌≤◌, eqb-true, eq-eqb}, lemmas.Bool.{false≢true, and_parts, cond_both, eqb-false, or_left}}
-use Rattle.std.proofs.lemmas.{Bool.{or_cases, false_from_ne_true, cases_eq, Decides.nat_tests}, Nat.Bits.bit_at_ones}
+use Rattle.std.proofs.Common.{◌≡◌, ◌≢◌, ℕ, ◌/◌, ◌%◌, ◌==◌, Bool, true, false, ◌&&◌, if◌then◌else◌, [], ◌∷◌, refl, ap, sym, ◌∙◌, subst, inl, inr, arith, not}
+use Rattle.std.proofs.{Common.{◌||◌, bit_or, ◌+◌, ◌*◌, ◌≤◌, eqb-true, eq-eqb}, lemmas.Bool.{false≢true, and_parts, cond_both, eqb-false, or_left, or_cases}}
+use Rattle.std.proofs.lemmas.{Bool.{false_from_ne_true, cases_eq, Decides.nat_tests}, Nat.Bits.bit_at_ones}
 use Rattle.pas_bits.{specs.Bits.has_bit, proofs.{Words.{none_of_zero, bit_cleared, bit_of_or}, PageVectors.{page_bit-clear, page_bit-set}}}
 use Rattle.pas_profile.specs.{Directories.{number_of, deed_word_of, deed_word_numbered, IsKind}, Profiles.{IsPage, IsDirectoryOf, IsValid}}
 use Rattle.pas_profile.{specs.declared.{profile.Profile.Profile, directory.Directory.Directory, word.Word.Word}, proofs.Codecs.deed_word_of-positive}
 use Rattle.pas_profile.proofs.Codecs.{numbered}
-use Rattle.pas_steps.specs.{Effects.{target, free_word_at, in_mask}, Allowed.{Allowed, MayUnback}, Agreement.IsDeedWord, Frames.unbacks, Views.{Way, Rests}}
-use Rattle.pas_steps.specs.Views.{ByDeed, FromOffer, FromParked, ToOffer, ToParked, way, has_right, deed_after, known_deed, epoch_of, free_after, known_free}
-use Rattle.pas_steps.specs.{Views.{View, holds, holds_on, backed_after, knows_backed}, Lists.{Whole, part, word_after, IsNext, Legal, Triple}}
-use Rattle.pas_steps.{specs.declared.step.Step.{Step, TheVariants.{Look, Deed, TakeRight, Offer, Park, Take}}, proofs.{Flags.was_set, Frames.any_one}}
-use Rattle.pas_steps.proofs.{Frames.backed_holds, Parts.each_part}
+use Rattle.pas_steps.specs.{Effects.{target, free_word_at, in_mask}, Allowed.Allowed, Agreement.IsDeedWord, Frames.unbacks, Views.{Way, Rests, ByDeed}}
+use Rattle.pas_steps.specs.Views.{FromOffer, FromParked, ToOffer, ToParked, way, has_right, deed_after, known_deed, epoch_of, free_after, known_free, View}
+use Rattle.pas_steps.specs.{Views.{holds, holds_on, backed_after, knows_backed}, Lists.{Whole, part, word_after, IsNext, Legal, Triple}}
+use Rattle.pas_steps.{specs.declared.step.Step.{Step, TheVariants.{Look, Deed, Offer, Park, Take}}, proofs.{Flags.was_set, Frames.{any_one, backed_holds}}}
+use Rattle.pas_steps.proofs.Parts.{each_part}
 use Rattle.pas_core.{specs.Rights.{parked_bit, eligible_bit, empty_bit, IsRightInOnePlace}, proofs.Deeds.{next_value, looked, IsKnown, known_is, word_stays}}
 use Rattle.pas_core.proofs.{Deeds.{deed_tells, look_tells, deed_at, numbered_ne, deed_words, deed_has_page, number_told}, Grains.{if_true, one_holder}}
 
@@ -104,36 +104,24 @@ offered_moved s n was = was
 park_cases : (y was : Bool) → (if y then true else was) ≡ parked_moved (if y then ToParked else Rests) was
 park_cases y was = grind arith
 
-parked_rests : (y was : Bool) (m : Way) → ((b : Bool) → parked_moved m b ≡ b) → was ≡ parked_moved (if y then m else Rests) was
-parked_rests y was m h = cond_both y m Rests (λ x. was ≡ parked_moved x was) (λ here. sym (h was)) (λ other. refl)
-
 -- ---- the eligible words
 eligible_step : (l : Whole) (e : ℕ) (s : Step) (a p n : ℕ) → a ≡ word_after l (target s)
     → has_bit (next_value e s (Word.Eligible n (p / 64)) (word_after l (Word.Eligible n (p / 64)))) (p % 64) ≡ offered_moved (way s a p) n (eligible_bit l n p)
-eligible_step l e (TakeRight q d) a p n is = search (arith, page_bit-clear, eqb-true)
-eligible_step l e (Offer q d) a p n is = search (arith, page_bit-set)
-eligible_step l e s a p n is = search (arith, looked, cond_both)
+eligible_step l e s a p n is = search (arith, page_bit-clear, eqb-true, page_bit-set, cond_both)
 
 -- ---- a legal step's way suits
-suits_if : (j : ℕ) (m : Way) (o : Spot) (t : Bool) → (t ≡ true → Suits j m o) → Suits j (if t then m else Rests) o
-suits_if j m o t h = cond_both t m Rests (λ x. Suits j x o) h (λ other. tt)
-
 with_here : (f : Profile) (l : Whole) (j q p : ℕ) → IsSpotted l p → has_right (part j l) q ≡ true → (q == p) ≡ true → spot_of l p ≡ With j
 with_here f l j q p at has h = grind (arith, eqb-true, false≢true)
 
 -- A legal step finds each right where its move takes it from.
 pub step_suits : (f : Profile) (l : Whole) (j : ℕ) (s : Step) (a p : ℕ) → IsSpotted l p → Allowed f (part j l) s → a ≡ word_after l (target s)
     → Suits j (way s a p) (spot_of l p)
-step_suits f l j s a p at allowed is = search (arith, suits_if, and_parts, eqb-true, is_offered-true, with_here, false≢true)
+step_suits f l j s a p at allowed is = search (arith, cond_both, and_parts, eqb-true, is_offered-true, with_here, false≢true)
 
 suits_then : (j : ℕ) (m : Way) (o : Spot) (t : Bool) → t ≡ true → Suits j (if t then m else Rests) o → Suits j m o
 suits_then j m o t e h = subst (λ b. Suits j (if b then m else Rests) o) e h
 
 -- ---- the deed word at each spot
-moved_fits : (y : Bool) (m : Way) (n j : ℕ) (o : Spot) → (y ≡ true → DeedFits (spot_after j m o) n) → DeedFits o n
-    → DeedFits (spot_after j (if y then m else Rests) o) n
-moved_fits y m n j o go fits = cond_both y m Rests (λ x. DeedFits (spot_after j x o) n) go (λ other. fits)
-
 -- the deed that an actor knows is that of the page
 known_here : (l : Whole) (j q p : ℕ) (d : Directory) → IsSpotted l p → known_deed (part j l) q ≡ deed_word_of d → (q == p) ≡ true
     → word_after l (Word.Deed p) ≡ deed_word_of d
@@ -160,10 +148,9 @@ spotted f (t ∷ l) legal p =
     record {
       has = λ k. cond_both (j == k) (t.made ∷ part k l) (part k l) (λ v. has_right v p ≡ is_with k (spot_of (t ∷ l) p)) (λ e. grind arith) (λ e. grind arith);
       eligible = λ n. eligible_step l e s a p n next.answer_is ∙ ap (offered_moved (way s a p) n) (at.eligible n) ∙ (grind (arith, if_true));
-      parked = (search (arith, parked_rests, page_bit-set, park_cases, page_bit-clear, eqb-true)) ∙ ap (parked_moved (way s a p)) at.parked ∙ (grind arith);
-      deed = search (arith, nat_tests, deed_word_of-positive, eqb-true, moved_fits, somewhere, suits_then, known_here, numbered);
-      known = λ k. cond_both (j == k) (t.made ∷ part k l) (part k l) (λ v. IsKnown (known_deed v p) (word_after (t ∷ l) (Word.Deed p)))
-          (λ own. deed_learns l e s a p _ at next.answer_is (at.known k)) (λ other. word_stays e s p _ _ (at.known k));
+      parked = (search (arith, cond_both, page_bit-set, park_cases, page_bit-clear, eqb-true)) ∙ ap (parked_moved (way s a p)) at.parked ∙ (grind arith);
+      deed = search (arith, nat_tests, deed_word_of-positive, eqb-true, cond_both, somewhere, suits_then, known_here, numbered);
+      known = λ k. search (arith, cond_both, deed_learns, word_stays, at.known);
     }
 
 -- ==== What follows for rights, for the bits of page vectors, and for the grains that views know as free.
@@ -305,22 +292,14 @@ free_after-is : (s : Step) (a g : ℕ) (right known : Bool)
     → free_after s a g right known ≡ (tells_free s a g right || (not (takes s g) && not (leaves s (g / 256)) && known))
 free_after-is s a g right known = grind arith
 
--- Where both tests fail and the third passes, each is known.
-not_from : (x z y : Bool) → (not x && not z && y) ≡ true → (x ≡ false) × (z ≡ false) × (y ≡ true)
-not_from x z y h = grind arith
-
 -- the step tells it, and it is so
 told_free : (f : Profile) (l : Whole) (j e : ℕ) (s : Step) (a g : ℕ) → IsSpotted l (g / 256) → IsClear l g → Allowed f (part j l) s
     → a ≡ word_after l (target s) → tells_free s a g (has_right (part j l) (g / 256)) ≡ true
     → Known j (spot_after j (way s a (g / 256)) (spot_of l (g / 256))) (has_bit (next_value e s (free_word_at g) (word_after l (free_word_at g))) (g % 64))
 told_free f l j e s a g at clear allowed is h = search (arith, and_parts, eqb-true, false≢true, step_suits)
 
--- an actor's own step leaves it a right that it has and doesn't give away
-moved_spot : (j : ℕ) (m : Way) (o : Spot) (x : Bool) → (x ≡ true → spot_after j m o ≡ With j) → o ≡ With j → spot_after j (if x then m else Rests) o ≡ With j
-moved_spot j m o x new old = cond_both x m Rests (λ w. spot_after j w o ≡ With j) new (λ other. old)
-
 own_spot : (j : ℕ) (s : Step) (a p : ℕ) (o : Spot) → leaves s p ≡ false → o ≡ With j → spot_after j (way s a p) o ≡ With j
-own_spot j s a p o stays h = grind (arith, moved_spot, false≢true)
+own_spot j s a p o stays h = grind (arith, cond_both, false≢true)
 
 nowhere_not_with : (j : ℕ) (o : Spot) → o ≡ Nowhere → o ≡ With j → ⊥
 nowhere_not_with j o h g = let e : Nowhere ≡ With j = sym h ∙ g in absurd cc
@@ -341,7 +320,7 @@ cleared f (t ∷ l) legal g =
       free = λ k. cond_both (j == k) (t.made ∷ part k l) (part k l) (λ v. known_free v g ≡ true → Known k (spot_of (t ∷ l) (g / 256)) (free_bit (t ∷ l) g))
           (λ same h. let e' : j ≡ k = eqb-true j k same in
           subst (λ i. Known i (spot_of (t ∷ l) (g / 256)) (free_bit (t ∷ l) g)) e'
-          (search (arith, or_cases, free_after-is, told_free, not_from, own_spot, looked, bit_cleared, put_keeps)))
+          (search (arith, or_cases, free_after-is, told_free, own_spot, looked, bit_cleared, put_keeps)))
           (λ ne h. (search (arith, other_spot, step_suits, looked, bit_cleared, put_keeps, takes_not, with_differs)));
     }
 
@@ -382,12 +361,8 @@ back_tells x known old small was told = grind (arith, or_one)
 unback_tells : (x known : Bool) (old : ℕ) → (known ≡ true → old ≡ 1) → (if x then false else known) ≡ true → (if x then 0 else old) ≡ 1
 unback_tells x known old h e = grind arith
 
--- only an actor that holds each grain of a page ends its backing
-allowed_at : (f : Profile) (v : View) (q p : ℕ) → MayUnback f v q → q ≡ p → (g : ℕ) → g / 256 ≡ p → holds v g ≡ true
-allowed_at f v q p may e g here = may.held g (here ∙ sym e)
-
 unbacks_held : (f : Profile) (v : View) (s : Step) (p : ℕ) → Allowed f v s → unbacks s p ≡ true → (g : ℕ) → g / 256 ≡ p → holds v g ≡ true
-unbacks_held f v s p allowed h = grind (arith, allowed_at, eqb-true, false≢true)
+unbacks_held f v s p allowed h = grind (arith, eqb-true, false≢true)
 
 -- so no other does while this actor holds one
 other_unbacks : (f : Profile) (l : Whole) → IsValid f → Legal f l → (t : Triple) (k p : ℕ) → IsNext f l t → (t.actor == k) ≡ false

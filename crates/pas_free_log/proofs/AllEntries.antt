@@ -1,16 +1,15 @@
 -- What a flush does for all entries of a log.
-use Rattle.std.proofs.Common.{◌≡◌, ℕ, [], List, ◌∷◌, ◌++◌, refl, ap, sym, ◌∙◌, append_assoc, ◌+◌, ◌-◌, ◌/◌, ◌≤◌, ◌==◌, Some, arith, suc, ◌*◌, ◌<◌, subst, Bool}
+use Rattle.std.proofs.Common.{◌≡◌, ℕ, [], List, ◌∷◌, ◌++◌, refl, ap, sym, ◌∙◌, append_assoc, ◌+◌, ◌-◌, ◌/◌, ◌≤◌, Some, arith, suc, ◌*◌, ◌<◌, subst, Bool}
 use Rattle.std.proofs.{Common.{append-nil, length, length-append, zero, take, get_or, map, reverse}, lemmas.List.{length-map, length-reverse, flat_map_more}}
 use Rattle.std.{proofs.lemmas.List.{reverse-append, take_more, reverse-reverse, Elements.{All-append, All-take}}, specs.List.flat_map}
 use Rattle.pas_steps.specs.{declared.step.{Made.Made, Step.TheVariants.{Stamp, Look}}, Kinds.Only, Views.{View, epoch_of, known_epoch}, Allowed.IsEpochKnown}
 use Rattle.pas_steps.{specs.{Clear.IsClear, Calls.{nothing, Does, Calls}, Desks.{Standing, made}, Events.events_by}, proofs.Apart.{only_within, only_both}}
 use Rattle.pas_steps.proofs.{Apart.epoch_same, Past.in_turn_length, Frames.events_append, Calls.still_clear}
-use Rattle.pas_free_log.specs.{Stamps.{stamps_by, pages_met, stamps_with}, Frames.{ending, freeing}, Returns.{PageSteps, first_on, count_on}, Conditions.MayEnd}
-use Rattle.pas_free_log.specs.{Endings.{TriesBy, EndSteps}, Noted.{IsRange, AreRanges}, declared.ending.Outcome.{Outcome, TheVariants.{Refused, Ended}}}
-use Rattle.pas_free_log.specs.{declared.noting.EndedRun.EndedRun, Flushes.{event_for, Settled, stamps_by_outcome, stamps_for, AfterEnd, EntriesSteps}}
-use Rattle.pas_free_log.{specs.Flushes.{shown_for, noted_for, noted_after, Flushes, EndsName}, proofs.OneEntry.stamps_append}
-use Rattle.pas_profile.specs.{Entries.entry_of, Directories.deed_word_of, Blocks.{address_of, grain_of}, declared.{word.Word.Word, name.Name.Name}}
-use Rattle.pas_profile.specs.declared.entry.Entry.{Entry}
+use Rattle.pas_free_log.specs.{Stamps.stamps_by, Frames.{ending, freeing}, Returns.PageSteps, Conditions.MayEnd, Endings.{TriesBy, EndSteps}, Noted.IsRange}
+use Rattle.pas_free_log.specs.{Noted.AreRanges, declared.{ending.Outcome.{Outcome, TheVariants.{Refused, Ended}}, noting.EndedRun.EndedRun}, Flushes.event_for}
+use Rattle.pas_free_log.specs.Flushes.{Settled, stamps_by_outcome, stamps_for, AfterEnd, EntriesSteps, shown_for, noted_for, noted_after, Flushes, EndsName}
+use Rattle.pas_free_log.proofs.OneEntry.{stamps_append}
+use Rattle.pas_profile.specs.{Entries.entry_of, Directories.deed_word_of, Blocks.address_of, declared.{word.Word.Word, name.Name.Name, entry.Entry.Entry}}
 use Rattle.pas_rights.proofs.{Orders.return_few, Puts.puts_few}
 
 -- ==== How many steps it makes at most.
@@ -34,10 +33,7 @@ end_few entry outcome steps h = let all = ap length h.steps_are in let n = lengt
 after_few : (epoch : ℕ) (name : Name) (outcome : Outcome) (steps : List Made) → AfterEnd name outcome steps
     → length steps ≤ 14 * length (stamps_by_outcome epoch name outcome)
 after_few epoch name (Ended grains) steps h =
-    let g = grain_of name in
-    let few = in_turn_length (λ page piece. PageSteps (first_on g page) (count_on g grains page) piece) 14 (λ page piece. page_few _ _ piece) _ steps h in
-    let pages : length (stamps_with epoch (pages_met g grains)) ≡ length (pages_met g grains) = length-map _ (λ page. (page, epoch)) in
-    omega (arith, few, pages)
+    search (arith, in_turn_length, page_few, length-map)
 after_few epoch name (Refused read) steps h = let none = ap length h in omega (arith, none)
 
 entries_few : (epoch : ℕ) (settled : List Settled) (steps : List Made) → EntriesSteps settled steps
@@ -75,8 +71,7 @@ stamps_more epoch entry settled ys xs kinds before one v is =
 -- The entries that were settled, with one more, are the first ones of the log.
 pub entries_more : (settled : List Settled) (entry : Settled) (logged : List Entry) (i : ℕ) (d : Entry) → i < length logged → entry.entry ≡ get_or logged i d
     → reverse (map (λ s. s.entry) settled) ≡ take i logged → reverse (map (λ s. s.entry) (entry ∷ settled)) ≡ take (i + 1) logged
-entries_more settled entry logged i d lt is before = reverse-append (entry.entry ∷ []) (map (λ s. s.entry) settled) ∙ ap (λ xs. xs ++ entry.entry ∷ []) before
-    ∙ ap (λ e. take i logged ++ e ∷ []) is ∙ sym (take_more logged i d lt)
+entries_more settled entry logged i d lt is before = cc (reverse-append (entry.entry ∷ []) (map (λ s. s.entry) settled), take_more logged i d lt)
 
 -- ---- the runs so far
 -- those of the first list that have room, and then of the second, are those of both
@@ -168,6 +163,5 @@ ends_name {σ} {σ'} name logged before after is none flushed =
       outcome = one.0.outcome;
       directory = one.0.directory;
       settled_is = one.1 ∙ ap settled one.2;
-      event = λ v. all.events v ∙ (ap (map (shown_for σ.seat.actor all.epoch)) one.1
-          ∙ ap (λ (e : Entry). event_for σ.seat.actor all.epoch e one.0.outcome ∷ []) one.2);
+      event = λ v. cc (all.events v);
     }

@@ -4,21 +4,20 @@ use Rattle.std.proofs.Common.{if◌then◌else◌, Option, Some, arith, ◌&&◌
 use Rattle.std.proofs.{Common.{eqb-true, eq-eqb, IfSome, option_to_list, length}, lemmas.{List.{map-append, Elements.All-nil}, Bool.Decides.nat_tests}}
 use Rattle.std.proofs.lemmas.Bool.{cases_eq, cases_Bool, eqb-false, not-true, and_parts, and_from, false≢true}
 use Rattle.pas_steps.specs.{declared.step.{Made.Made, Step.{Step, TheVariants.{Stamp, Look, End, EndSized}}}, Kinds.{Kinds, Stamping, kind_of, is_in, apart}}
-use Rattle.pas_steps.specs.{Kinds.{Only, LookDeed, Putting, returning, Ending}, Views.{View, EndedOn, epoch_of, known_deed, known_epoch, is_unstamped}}
-use Rattle.pas_steps.specs.{Views.{examines, holds, or_zero, ends_on, Stays, Ends, grain_move, held_after}, Allowed.{HoldsOn, IsEpochKnown, IsStepOf}}
-use Rattle.pas_steps.specs.{Frames.OnlyReturns, Effects.succeeds, Agreement.{AgreesDeed, AgreesLife, AgreesEnd, Agrees}, Calls.{nothing, put, Does, Calls}}
-use Rattle.pas_steps.specs.{Calls.{Kept, now, Leads}, Desks.{Standing, made, Makes, CanCall, Adds, AnyView}, Events.{events_by, with_event, end_event}}
-use Rattle.pas_steps.{specs.Events.{reason_of, event_of, sized_reason}, proofs.Apart.{in_apart, only_within, only_both, deeds_same, unstamped_same}}
-use Rattle.pas_steps.proofs.{Apart.{examines_same, epoch_same, events_same}, Adding.{adds_none, adds_step, adds_under}, Called.call_then}
-use Rattle.pas_steps.proofs.{ReadDeeds.directory_told, Past.once_later, Calls.{does_after_nothing, does_idly, returns_are, does_none, unexamined_over}}
-use Rattle.pas_steps.proofs.Calls.{leads_idly, nothing_then, end_fails, does_step, end_effect, EndsBlock, end_succeeds, leads_as, leads_then, end_later}
-use Rattle.pas_steps.proofs.{Calls.ends_back, Sets.{put_freed, put_as, freed_both, freed_nothing}}
+use Rattle.pas_steps.specs.{Kinds.{Only, LookDeed, Putting, returning, Ending}, Views.{View, epoch_of, known_deed, known_epoch, is_unstamped, examines}}
+use Rattle.pas_steps.specs.{Views.{or_zero, ends_on, Stays, Ends, grain_move, held_after}, Allowed.{HoldsOn, IsEpochKnown, IsStepOf}, Frames.OnlyReturns}
+use Rattle.pas_steps.specs.{Effects.succeeds, Agreement.{AgreesDeed, AgreesLife, AgreesEnd, Agrees}, Calls.{nothing, put, Does, Calls, Kept, now, Leads}}
+use Rattle.pas_steps.specs.{Desks.{Standing, made, Makes, CanCall, Adds, AnyView}, Events.{events_by, with_event, end_event, reason_of, event_of, sized_reason}}
+use Rattle.pas_steps.proofs.{Apart.{in_apart, only_within, only_both, deeds_same, unstamped_same, examines_same, epoch_same, events_same}, Adding.adds_none}
+use Rattle.pas_steps.proofs.{Adding.{adds_step, adds_under}, Called.call_then, ReadDeeds.directory_told, Past.once_later, Calls.{does_after_nothing, does_idly}}
+use Rattle.pas_steps.proofs.Calls.{returns_are, does_none, unexamined_over, leads_idly, nothing_then, end_fails, does_step, end_effect, EndsBlock, end_succeeds}
+use Rattle.pas_steps.proofs.{Calls.{leads_as, leads_then, end_later, ends_back}, Sets.{put_freed, put_as, freed_both, freed_nothing}}
 use Rattle.pas_free_log.specs.{Stamps.{stamped_by, stamps_by, page_count, pages_from, pages_met, stamps_with}, Frames.{putting_back, run_freed, PutsBack}}
 use Rattle.pas_free_log.specs.{Frames.ending, Returns.{MayReturn, ReturnsPage, PageSteps, PagesSteps, first_on, count_on, ReturnsRun}, Conditions.IsRun}
 use Rattle.pas_free_log.specs.{Conditions.{IsRunOnPage, IsNameOf, IsEntryOf, KnowsEpoch, MayEnd}, Endings.{guess_by, guess_by_kind, is_of, Tries, TriesBy}}
-use Rattle.pas_free_log.specs.{Endings.{IsRefusedBy, last_step, IsEndOf, IsOfRegion, EndsOne, reason_by, reason_for}, declared.ending.Outcome.Outcome}
+use Rattle.pas_free_log.specs.{Endings.{IsRefusedBy, last_step, IsEndOf, IsOfRegion, EndsOne, reason_by}, declared.ending.Outcome.Outcome}
 use Rattle.pas_free_log.specs.{declared.{ending.Outcome.TheVariants.{Refused, Ended}, noting.EndedRun.EndedRun}, Flushes.EndsEntry, Noted.{IsRange, AreRanges}}
-use Rattle.pas_free_log.specs.Noted.{range_of, run_of_kind, run_in, large_run}
+use Rattle.pas_free_log.specs.Noted.{run_of_kind, run_in, large_run}
 use Rattle.pas_profile.specs.{Directories.{deed_word_of, directory_read, IsKind}, Profiles.{IsValid, IsDirectoryOf}, Blocks.{address_of, grain_of}}
 use Rattle.pas_profile.specs.{Entries.{entry_of, is_sized}, declared.{directory.{Directory.Directory, Kind.Kind}, profile.Profile.Profile, word.Word.Word}}
 use Rattle.pas_profile.specs.{declared.{name.Name.Name, event.{Event.Event, Range.Range}, entry.Entry.Entry}, Lives.{live_word, is_live, turn_of, grains_of}}
@@ -144,11 +143,7 @@ module _ {σ σ1 σ2 : Standing} (g n deed stamped : ℕ) (mask : Mask4) (some :
   put_so p = call_then (λ v w. Does (put (in_run g n) page) v w × IsStamped page deed w) stamped_so p.calls (λ v met r. r.1)
       (λ v met r d. let w = stamping page deed stamped ++ v in (
         put_as _ _ page (does_after_nothing _ r.0 d) grains,
-        record {
-          deed = deeds_same (Putting ∷ []) refl page p.steps w p.kinds ∙ r.2.deed;
-          stamped = unstamped_same (Putting ∷ []) refl page p.steps w p.kinds ∙ r.2.stamped;
-          examined = examines_same (Putting ∷ []) refl page p.steps w p.kinds ∙ r.2.examined;
-        },
+        search (arith, deeds_same, unstamped_same, examines_same),
       ))
 
   -- A page that was stamped, put back and settled is returned.
@@ -346,11 +341,7 @@ gone_since f v name first guess read a is length agrees ne = elim (cases_Bool _)
 pub ended_again : (f : Profile) (v : View) (name : Name) (first guess read a : ℕ) → IsNameOf f name → is_of name read ≡ true → guess ≡ grains_of read
     → a ≡ live_word name.turn guess → AgreesEnd f (made (End name first) read ∷ v) name guess a → IsRun f (grain_of name) guess
 ended_again f v name first guess read a named is length live agrees =
-    let turn : name.turn < 2 ^ 40 = omega (arith, named.turn) in
-    let lives : is_live a ≡ true = ap is_live live ∙ is_live-live_word name.turn guess in
-    let same = still_length f v name first guess read a is length agrees.life (is_of_name name a lives (ap turn_of live ∙ turn_of-live_word name.turn guess turn)) in
-    let some = (agrees.life.length lives).0 in
-    ended_run f _ name guess a (omega (arith, same, some)) live agrees
+    search (arith, is_live-live_word, still_length, is_of_name, turn_of-live_word, ended_run)
 
 -- the first try read another length
 pub again : (name : Name) (deed first guess read : ℕ) → first ≡ guess_by (directory_read deed) → read ≢ live_word name.turn first → is_of name read ≡ true
@@ -555,8 +546,7 @@ entry_refused {σ} entry read directory named e =
       kinds = end_kinds e;
       order = record { ends = e.steps; order = o; directory = e.tells; after = []; returns = refl; steps_are = refl };
       event = λ v. end_shows e σ.seat.actor v _
-          (last_refused _ entry o.guess σ.seat.actor _ o.answer (guess_is _ entry _ o.guess o.before o.tries) o.comes_to.0 ne
-          ∙ ap (λ n. Some (Event.Reject σ.seat.actor entry.name (reason_for entry n))) (sym o.comes_to.1));
+          (cc (last_refused _ entry o.guess σ.seat.actor _ o.answer (guess_is _ entry _ o.guess o.before o.tries) o.comes_to.0 ne));
       stamps = end_stamps e;
     }
 
@@ -569,10 +559,7 @@ range_in directory range is = grind (arith, range_of_kind)
 
 whole_range : (f : Profile) (name : Name) (grains : ℕ) (directory : Option Directory) → IsValid f → IsRun f (grain_of name) grains
     → AreRanges (option_to_list (large_run name grains directory))
-whole_range f name grains directory valid run = elim (cases_Bool _) [
-  | inl whole ↦ search (arith, and_parts, eqb-true, range_in)
-  | inr other ↦ subst (λ t. AreRanges (option_to_list (if t then run_in directory (range_of name grains) else None))) (sym other) (All-nil (λ run. IsRange run.range))
-]
+whole_range f name grains directory valid run = search (arith, cases_Bool, and_parts, eqb-true, range_in)
 
 -- ---- a block that ended
 ended_held : (t inside : Bool) (held : Bool) (g : ℕ) → t ≡ true → inside ≡ true → held_after (if t && inside then Ends g else Stays) held ≡ true
@@ -594,12 +581,7 @@ module _ {σ σ1 : Standing} {entry : Entry} {grains : ℕ} {directory : Option 
   lived = e.order.comes_to.0 ∙ ap (live_word entry.name.turn) (sym e.order.comes_to.1)
 
   may_return : (v : View) → MayEnd v → MayReturn g grains (e.steps ++ v)
-  may_return v met = let a = e.order.answer in let live = live_word entry.name.turn grains in record {
-    held = λ x inside. ap (λ s. holds (s ++ v) x) e.order.steps_are ∙ ap (λ m. held_after m (holds (first_steps e ++ v) x)) (ended_last.moves a x) ∙ ended_held _ _ _ g (eq-eqb a live lived) inside;
-    ended = λ page meets. subst (λ s. EndedOn (s ++ v) page) (sym e.order.steps_are) (inl (ended_last.ends a page ∙ and_from _ _ (eq-eqb a live lived) meets));
-    examined = λ page meets. unexamined_over ending refl page e.steps v (end_kinds e) (met.examined page);
-    epoch = subst IsEpochKnown (sym (epoch_same ending refl e.steps v (end_kinds e))) met.epoch;
-  }
+  may_return v met = search (arith, ended_last, ended_held, eq-eqb, lived, and_from, unexamined_over, end_kinds, epoch_same)
 
   -- the tries and the end
   ends_block : Leads σ.seat.profile AnyView (EndsBlock g grains) e.steps
@@ -623,8 +605,5 @@ module _ {σ σ1 : Standing} {entry : Entry} {grains : ℕ} {directory : Option 
     kinds = only_both ending r.steps e.steps (only_within putting_back ending r.steps refl r.back.kinds) (end_kinds e);
     order = record { ends = e.steps; order = e.order; directory = e.tells; after = r.steps; returns = r.order; steps_are = refl };
     event = λ v. events_same putting_back refl σ.seat.actor v r.steps e.steps r.back.kinds ∙ end_shows e σ.seat.actor v _ (ended_last.event σ.seat.actor (epoch_of v) e.order.answer lived);
-    stamps = λ v.
-        stamps_append v r.steps e.steps ∙ ap (λ s. s ++ stamps_by v e.steps) (r.back.stamps (e.steps ++ v))
-        ∙ ap (λ s. stamps_with (epoch_of (e.steps ++ v)) (pages_met g grains) ++ s) (end_stamps e v) ∙ append-nil _
-        ∙ ap (λ o. stamps_with (or_zero o) (pages_met g grains)) (epoch_same ending refl e.steps v (end_kinds e));
+    stamps = search (arith, stamps_append, end_stamps, append-nil, epoch_same, end_kinds);
   }

@@ -5,17 +5,15 @@ use Rattle.std.proofs.lemmas.Bool.{cases_Bool, Decides.nat_tests, or_right, case
 use Rattle.pas_profile.specs.{Layouts.same_word, Profiles.IsValid, Directories.number_of, declared.{directory.Directory.Directory, profile.Profile.Profile}}
 use Rattle.pas_profile.{specs.declared.{name.Block.Block, guard.Guard.Guard}, proofs.Codecs.deed_word_of-positive}
 use Rattle.pas_steps.specs.{Allowed.Allowed, Effects.{target, new_value}, Past.{Since, Once, Always}, Desks.{Standing, CanCall}, Agreement.{Agrees, Agreed}}
-use Rattle.pas_steps.specs.{Evidence.{GetsRight, GetsHere, KeptHere}, Kinds.apart, Lists.{Triple, Whole, part, word_after, IsNext, Legal}, Views.{View, Stays}}
-use Rattle.pas_steps.specs.Views.{Gives, held_after, grain_move, holds, known_deed, KnowsDeed, has_right, Way, ByDeed, FromOffer, FromParked, ToOffer, ToParked}
-use Rattle.pas_steps.specs.{Views.{Rests, had_after, right_after}, declared.step.{Made.Made, Step.{Step, TheVariants.{Look, Back, Deed, TakeRight, Offer}}}}
-use Rattle.pas_steps.specs.{declared.step.Step.TheVariants.{Park, Unpark}, Calls.{Calls, Kept, Lost, ClearAfter, Does, on_page, Gained, now, nothing}}
-use Rattle.pas_steps.{specs.Frames.{OnlyOn, IsOnPage, GivesUp, KeepsRight}, proofs.{Called.{call_then, next_call, call_as, call_knows}, Calls.does_as}}
-use Rattle.pas_steps.proofs.{Calls.does_then, Sets.{both_fates, kept_kept}, Apart.only_both, Past.always_map, Frames.{rights_stay, right_on, knows_still}}
-use Rattle.pas_steps.proofs.Frames.{right_own}
+use Rattle.pas_steps.specs.{Evidence.{GetsRight, GetsHere}, Kinds.apart, Lists.{Triple, Whole, part, word_after, IsNext, Legal}, Views.{View, Stays, Gives}}
+use Rattle.pas_steps.specs.Views.{held_after, grain_move, holds, known_deed, KnowsDeed, has_right, Way, ByDeed, FromOffer, FromParked, ToOffer, ToParked, Rests}
+use Rattle.pas_steps.specs.{Views.{had_after, right_after}, declared.step.{Made.Made, Step.{Step, TheVariants.{Back, Deed, TakeRight, Offer, Park, Unpark}}}}
+use Rattle.pas_steps.specs.{Calls.{Calls, Kept, Lost, ClearAfter, Does, on_page, Gained, now, nothing}, Frames.{OnlyOn, GivesUp, KeepsRight}}
+use Rattle.pas_steps.proofs.{Called.{call_then, next_call, call_as, call_knows}, Calls.{does_as, does_then}, Sets.{both_fates, kept_kept}, Apart.only_both}
+use Rattle.pas_steps.proofs.{Past.always_map, Frames.{rights_stay, right_on, knows_still, right_own}}
 use Rattle.pas_core.proofs.{Deeds.{looked, known_is}, Grains.one_holder, Rights.deeds_known}
-use Rattle.pas_large.specs.{Claims.{StaysPut, in_span, HasPages, HoldsSpan, Releases}, Gives.{GaveRun, GivesRun}, Pages.{of_pages, GotPages}}
-use Rattle.pas_large.{specs.{Evidence.TakenWholeHere, Finds.MayFind}, proofs.{Claims.{call_knowing, span_in, in_parts, span_none, got_both}, Pages.undone}}
-use Rattle.pas_large.proofs.Pages.{since_more}
+use Rattle.pas_large.specs.{Claims.{StaysPut, in_span, HasPages, HoldsSpan, Releases}, Gives.{GaveRun, GivesRun}, Pages.{of_pages, GotPages}, Finds.MayFind}
+use Rattle.pas_large.proofs.{Claims.{call_knowing, span_in, in_parts, span_none, got_both}, Pages.{undone, since_more}}
 use Rattle.pas_guard.specs.{Raises.BacksNot, Evidence.BackedReadHere, Seeks.{LeftSince, HasSpan}, Guards.{given_and_left, GuardsRun}, Books.is_outer_of}
 use Rattle.pas_guard.specs.{Lowers.{MayLower, lowered, Lowers}, Guarded.{StandsGuard, LeavesGuard, KeepsGuard, GivesOn, IsUntouched, AreUntouched}}
 use Rattle.pas_rights.specs.{Leaves.{MayLeave, Leaves}, Gives.give_steps, Puts.masked, Words.full, PutsBack.{giving_back, given_back, MayPutAndReturn}}
@@ -46,33 +44,23 @@ module _ (f : Profile) (l : Whole) (keeper page : ℕ) (d : Directory) (valid : 
 moved : (b g : ℕ) → Gives b ≡ Stays → ⊥
 moved b g e = cc
 
-own_give : (page : ℕ) (m : Made) → LeavesGuard page m → GivesOn page m.step → ⊥
-own_give page m leaves on = search (arith, moved)
-
 -- ---- one step more
 module _ (f : Profile) (l : Whole) (t : Triple) (keeper page : ℕ) (d : Directory) (valid : IsValid f) (legal : Legal f l) (next : IsNext f l t)
     (stands : StandsGuard l keeper page d) (keeps : (t.actor == keeper) ≡ true → LeavesGuard page t.made) where
   untouched_next : IsUntouched page t.made.step
-  untouched_next = search (arith, cases_Bool, own_give, no_back, no_give)
-
-  -- its own step moves no grain of the page, and another's isn't of its part
-  held_next : (own : Bool) → (t.actor == keeper) ≡ own → (g : ℕ) → g / 256 ≡ page → holds (if own then t.made ∷ part keeper l else part keeper l) g ≡ true
-  held_next own is g at = search arith
+  untouched_next = search (arith, cases_Bool, moved, no_back, no_give)
 
   stands_next : StandsGuard (t ∷ l) keeper page d
-  stands_next = search (arith, held_next, stays_bare, untouched_next)
+  stands_next = search (arith, stays_bare, untouched_next)
 
 -- ---- a step between two places where the page stands
-backs_it : (e : ℕ) (s : Step) (page old : ℕ) → s ≡ Back page → old ≡ 0 → (if same_word (target s) (Words.Backed page) then new_value e s old else old) ≡ 1
-backs_it e s page old is zero = search (arith, bit_or, eq-eqb)
-
 given_away : (page answer : ℕ) (s : Step) (on : GivesOn page s) (h : Bool) → held_after (grain_move s answer on.2.0) h ≡ false
 given_away page answer s on h = search (arith, on.0, on.2, on.1)
 
 -- A step between two places at which a keeper's page stands leaves the page untouched.
 pub untouched_between : (f : Profile) (l : Whole) (t : Triple) (keeper page : ℕ) (d : Directory) → IsValid f → Legal f (t ∷ l) → StandsGuard l keeper page d
     → StandsGuard (t ∷ l) keeper page d → IsUntouched page t.made.step
-untouched_between f l t keeper page d valid legal before after = search (arith, backs_it, cases_Bool, true≢false, given_away, no_give)
+untouched_between f l t keeper page d valid legal before after = search (arith, bit_or, eq-eqb, cases_Bool, true≢false, given_away, no_give)
 
 -- ---- all steps
 pub stands_on : (f : Profile) (older newer : Whole) (keeper page : ℕ) (d : Directory) → IsValid f → Legal f (newer ++ older) → StandsGuard older keeper page d
@@ -108,14 +96,10 @@ pub record StandsBare (l : Whole) (keeper page : ℕ) : Type 0 where
   pub held : (g : ℕ) → g / 256 ≡ page → holds (part keeper l) g ≡ true
   pub bare : word_after l (Words.Backed page) ≡ 0
 
-looked_bare : (e : ℕ) (s : Step) (page old : ℕ) → s ≡ Look (Words.Backed page) → old ≡ 0
-    → (if same_word (target s) (Words.Backed page) then new_value e s old else old) ≡ 0
-looked_bare e s page old is zero = search (arith, looked)
-
 -- the keeper's newest step is the look
 begins_here : (f : Profile) (l : Whole) (t : Triple) (keeper page : ℕ) (v : View) (before : List Made) → IsNext f l t → part keeper l ≡ before ++ v
     → (t.actor == keeper) ≡ true → BackedReadHere v page 0 t.made before → StandsBare (t ∷ l) keeper page
-begins_here f l t keeper page v before next is own read = search (arith, looked_bare)
+begins_here f l t keeper page v before next is own read = search (arith, looked)
 
 goes_bare : (f : Profile) (l : Whole) (t : Triple) (keeper page : ℕ) → IsValid f → Legal f l → IsNext f l t → StandsBare l keeper page
     → ((t.actor == keeper) ≡ true → LeavesGuard page t.made) → StandsBare (t ∷ l) keeper page
@@ -152,9 +136,6 @@ guard_begins f l keeper page d v steps valid legal is since knows =
     record { held = stands.held; deed = sym (known_is _ _ (deeds_known f l legal keeper page) (λ z. deed_word_of-positive d (sym knows ∙ z))) ∙ knows; bare = stands.bare }
 
 -- ---- a run that is held is guarded
-inner_in : (first k p : ℕ) → in_span (first + 1) (first + 1 + k) p ≡ true → in_span first (first + (k + 2)) p ≡ true
-inner_in first k p is = grind (arith, nat_tests)
-
 with_low : (first k q : ℕ) → (in_span (first + 1) (first + 1 + k) q || (first == q)) ≡ in_span first (first + 1 + k) q
 with_low first k q = grind (arith, nat_tests)
 
@@ -162,7 +143,7 @@ with_high : (first k q : ℕ) → (in_span first (first + 1 + k) q || (first + k
 with_high first k q = grind (arith, nat_tests)
 
 inner_pages : (d : Directory) (first k : ℕ) (v : View) → HasPages d first (first + (k + 2)) v → HasPages d (first + 1) (first + 1 + k) v
-inner_pages d first k v met = search (arith, inner_in)
+inner_pages d first k v met = search (arith, nat_tests)
 
 -- Who has the pages of a run may give the block of those between its outer ones.
 pub can_give_inner : {σ : Standing} (d : Directory) (first k : ℕ) → CanCall σ (HasPages d first (first + (k + 2)))
@@ -188,12 +169,6 @@ module _ (d : Directory) (first k : ℕ) (block : Block) where
   high_in : run (first + k + 1) ≡ true
   high_in = span_in first (first + (k + 2)) (first + k + 1) (omega arith) (omega arith)
 
-  low_out : in_span (first + 1) (first + 1 + k) first ≡ false
-  low_out = grind (arith, nat_tests)
-
-  high_out : in_span first (first + 1 + k) (first + k + 1) ≡ false
-  high_out = grind (arith, nat_tests)
-
   -- what the give and the first leave come to
   abbrev Gave : View → View → Type 0
   Gave v w = GaveRun d (first + 1) k block v w × Knows w
@@ -215,7 +190,7 @@ module _ (d : Directory) (first k : ℕ) (block : Block) where
     gave = call_knowing d run (call_as (GaveRun d (first + 1) k block) give.calls (inner_pages d first k) (λ v w met r. r)) (λ v met. met.deeds)
 
     may_low : (v : View) → HasPages d first (first + (k + 2)) v → Gave v (gs ++ v) → MayLeave first d (gs ++ v)
-    may_low v met gaves = search (arith, low_out, low_in)
+    may_low v met gaves = search (arith, nat_tests, low_in)
 
     -- After the give of a guarded block its low outer page may be left.
     pub can_leave_low : CanCall σ (HasPages d first (first + (k + 2))) → CanCall σ1 (MayLeave first d)
@@ -228,7 +203,7 @@ module _ (d : Directory) (first k : ℕ) (block : Block) where
 
       may_high : (v : View) → HasPages d first (first + (k + 2)) v → LeftLow v ((low.steps ++ gs) ++ v) × Knows ((low.steps ++ gs) ++ v)
           → MayLeave (first + k + 1) d ((low.steps ++ gs) ++ v)
-      may_high v met left = search (arith, high_out, high_in)
+      may_high v met left = search (arith, nat_tests, high_in)
 
       -- After the low outer page was left, the high one may be left, too.
       pub can_leave_high : CanCall σ (HasPages d first (first + (k + 2))) → CanCall σ2 (MayLeave (first + k + 1) d)
@@ -260,14 +235,8 @@ module _ (f : Profile) (guard : Guard) where
   abbrev d : Directory
   d = large_directory guard.block.heap
 
-  is_low : (p : ℕ) → guard.low ≡ p → is_outer_of guard p ≡ true
-  is_low p e = ap (λ t. t || (guard.high == p)) (eq-eqb guard.low p e)
-
-  is_high : (p : ℕ) → guard.high ≡ p → is_outer_of guard p ≡ true
-  is_high p e = or_right (guard.low == p) (guard.high == p) (eq-eqb guard.high p e)
-
   low_met : (v : View) → MayLower f guard v → MayPutAndReturn guard.low d full v
-  low_met v met = search (arith, is_low, of_page)
+  low_met v met = search (arith, eq-eqb, of_page)
 
   -- A guard's low page may be put back, where the guard may be lowered.
   pub can_low : {σ : Standing} → CanCall σ (MayLower f guard) → CanCall σ (MayPutAndReturn guard.low d full)
@@ -279,7 +248,7 @@ module _ (f : Profile) (guard : Guard) where
 
     high_met : (v : View) → MayLower f guard v → Does (given_back (masked guard.low full)) v (low.steps ++ v) × KnowsDeed guard.high d (low.steps ++ v)
         → MayPutAndReturn guard.high d full (low.steps ++ v)
-    high_met v met low = search (arith, of_page, on_full, ne_eqb, is_high)
+    high_met v met low = search (arith, of_page, on_full, ne_eqb, or_right, eq-eqb)
 
     -- After its low page was put back, a guard's high page may be, too.
     pub can_high : CanCall σ (MayLower f guard) → CanCall σ1 (MayPutAndReturn guard.high d full)
@@ -385,10 +354,7 @@ module _ {v w u : View} (d : Directory) (a c : ℕ) (some : a < c) (span : HasSp
         right = λ q. left.right q ∙ ap (now (if a == q then Lost else Kept)) (span.got.does.right q) ∙ slid (a == q) (in_span a c q) (in_span (a + 1) c q)
             (has_right v q) (λ e. (past_first a c q (here q e), span.lacked q (in_first q (here q e)))) (λ e. but_first a c q (there q e));
         clear = λ q is. left.clear q (span.got.does.clear q is);
-        backed = λ x kept bears. elim (cases_Bool (a == x / 256)) [
-          | inl e ↦ absurd (true≢false (sym bears.held ∙ span.got.apart x (in_first (x / 256) (here (x / 256) e))))
-          | inr e ↦ left.backed x (ap (λ m. if m then Lost else Kept) (on_full a x ∙ e)) (span.got.does.backed x (ap (λ t. if t then Gained else Kept) (but_first a c (x / 256) (there (x / 256) e)) ∙ kept) bears)
-        ];
+        backed = λ x kept bears. search (arith, cases_Bool, true≢false, in_first, here, on_full, but_first, span.got.apart, left.backed, span.got.does.backed);
       };
       apart = λ g is. let at = in_parts (a + 1) c (g / 256) is in span.got.apart g (span_in a c (g / 256) (omega (arith, at.0)) at.1);
       lacked = λ p is. let at = in_parts (a + 1) c p is in span.lacked p (span_in a c p (omega (arith, at.0)) at.1);
@@ -480,10 +446,6 @@ module _ {σ σ2 : Standing} (d : Directory) (from free : ℕ) {ss : List Made} 
   span : HasSpan d from free can.view (ss ++ can.view)
   span = held.leads.from can.view can.met (held.adds.agreed can.view can.whole can.stood can.met)
 
-  -- by these steps alone
-  own_right : (p : ℕ) → in_span from free p ≡ true → has_right ss p ≡ true
-  own_right p is = sym (right_own p ss can.view (span.lacked p is)) ∙ span_has span p is
-
   own_held : (g : ℕ) → in_span from free (g / 256) ≡ true → holds ss g ≡ true
   own_held g is = sym (holds_own g ss can.view (span.got.apart g is)) ∙ span_holds span g is
 
@@ -491,7 +453,7 @@ module _ {σ σ2 : Standing} (d : Directory) (from free : ℕ) {ss : List Made} 
   gives_duly = always_map ReturnsDuly GivesDuly ss (λ m before is. is.1) due
 
   was_got : (p : ℕ) → in_span from free p ≡ true → Once (GetsHere p) ss
-  was_got p is = right_was_got p ss due (own_right p is)
+  was_got p is = right_was_got p ss due (sym (right_own p ss can.view (span.lacked p is)) ∙ span_has span p is)
 
   -- all of them
   pub release_duly : {σ3 : Standing} (r : Releases d from free σ2 σ3) → Always ReturnsDuly (r.steps ++ ss)

@@ -1,16 +1,15 @@
 -- While a keeper's guard is up, its outer pages stand whole and bare.
-use Rattle.std.proofs.Common.{◌≡◌, ℕ, ◌+◌, ◌/◌, ◌<◌, ◌==◌, Bool, true, false, ◌||◌, if◌then◌else◌, ◌⊎◌, List, [], ◌∷◌, ◌++◌, length, inl, inr, refl, ap, sym}
-use Rattle.std.proofs.Common.{◌∙◌, subst, arith, append_assoc, append-nil, true≢false, Option, Some, None, Contains, slice_index_or, eqb-true, eq-eqb}
-use Rattle.std.proofs.lemmas.{Bool.{cases_Bool, or_right, Decides.nat_tests}, List.Elements.{Contains-append_right, Contains-push_cases, Contains-append_left}}
-use Rattle.std.proofs.lemmas.List.Elements.{Contains-push}
+use Rattle.std.proofs.Common.{◌≡◌, ℕ, ◌+◌, ◌/◌, ◌==◌, Bool, true, false, ◌||◌, if◌then◌else◌, ◌⊎◌, List, [], ◌∷◌, ◌++◌, inl, inr, refl, ap, sym, ◌∙◌, subst}
+use Rattle.std.proofs.{Common.{arith, append_assoc, append-nil, true≢false, Option, Some, None, Contains, eqb-true, eq-eqb}, lemmas.Bool.{cases_Bool, or_right}}
+use Rattle.std.proofs.lemmas.{Bool.Decides.nat_tests, List.Elements.{Contains-append_right, Contains-push_cases, Contains-append_left, Contains-push}}
 use Rattle.pas_profile.specs.{Profiles.IsValid, Blocks.address_of, declared.{directory.Directory.Directory, name.Block.Block, profile.Profile.Profile}}
 use Rattle.pas_profile.specs.declared.guard.Guard.{Guard}
 use Rattle.pas_scan.specs.Runs.{large_directory}
-use Rattle.pas_steps.specs.{Agreement.Agreed, Effects.in_mask, Past.{Once, Always}, Clear.IsClear, Kinds.{Kinds, Giving, Only, is_in, kind_of, Backing}}
-use Rattle.pas_steps.specs.{Kinds.returning, Lists.{Triple, Whole, part, Legal}, Views.{Stays, Puts, grain_move, KnowsDeed, View}, declared.step.Made.Made}
-use Rattle.pas_steps.{specs.declared.step.Step.{Step, TheVariants.{Put, Give}}, proofs.{Adding.{agreed_first, agreed_later}, Past.once_later}}
+use Rattle.pas_steps.specs.{Agreement.Agreed, Past.{Once, Always}, Clear.IsClear, Kinds.{Kinds, Giving, Only, is_in, kind_of, Backing, returning}, Lists.Triple}
+use Rattle.pas_steps.specs.{Lists.{Whole, part, Legal}, Views.{Stays, grain_move, KnowsDeed, View}, declared.step.{Made.Made, Step.{Step, TheVariants.Put}}}
+use Rattle.pas_steps.{specs.declared.step.Step.TheVariants.Give, proofs.{Adding.{agreed_first, agreed_later}, Past.once_later}}
 use Rattle.pas_core.proofs.Nexts.{agrees_next}
-use Rattle.pas_large.{specs.{Claims.{in_span, StaysPut}, Gives.run_block}, proofs.Claims.span_in}
+use Rattle.pas_large.{specs.Claims.{in_span, StaysPut}, proofs.Claims.span_in}
 use Rattle.pas_guard.specs.{Books.{is_outer_of, is_outer, FitsBook}, Guarded.StandsGuard, Seeks.seeking, Keepers.{Call, MakesCall, MakesCalls, GivesBlockOf}}
 use Rattle.pas_guard.specs.{Keepers.{PutsNoneOf, IsUpIn, IsUp, IsUpThrough, StandsBetween, StandsThrough, IsKeeper, IsBeside, GivesGuarded}, Raises.BacksNot}
 use Rattle.pas_guard.specs.{Raises.{guard_of, IsRaised, RaiseSteps}, Sweeps.{is_over, SweptOne, Swept, sweeping, SweepSteps, life_look}}
@@ -74,10 +73,8 @@ agreed_of f [] k [] v valid legal is = tt
 agreed_of f [] k (x ∷ xs) v valid legal is = absurd (let e : [] ≡ x ∷ (xs ++ v) = is in cc)
 agreed_of f (t ∷ l) k [] v valid legal is = tt
 agreed_of f (t ∷ l) k (x ∷ xs) v valid legal is = elim (cases_Bool (t.actor == k)) [
-  | inl own ↦ (let both = own_first k (t.actor == k) t.made x (part k l) (xs ++ v) own is in let next = legal.0 in (
-    search (arith, agrees_next),
-    agreed_of f l k xs v valid legal.1 both.1,
-  ))
+  | inl own ↦ (let both = own_first k (t.actor == k) t.made x (part k l) (xs ++ v) own is in let next = legal.0 in
+      search (arith, agrees_next, (agreed_of f l k xs v valid legal.1 both.1)))
   | inr other ↦ agreed_of f l k (x ∷ xs) v valid legal.1 (others_first (t.actor == k) t.made (part k l) (x ∷ (xs ++ v)) other is)
 ]
 
@@ -114,13 +111,9 @@ between_on f l keeper guard xs ys valid legal c stands low high = let d = large_
 
 -- ==== Guards of a book.
 
--- at place 0 or at a later one
-at_cases : (g : Guard) (gs : List Guard) (x : Guard) (k : ℕ) → k < length (g ∷ gs) → slice_index_or (g ∷ gs) k x ≡ x → (g ≡ x) ⊎ Contains gs x
-at_cases g gs x k lt is = search arith
-
 -- A guard that a list contains is its first or one of the others.
 first_or_later : (g : Guard) (gs : List Guard) (x : Guard) → Contains (g ∷ gs) x → (g ≡ x) ⊎ Contains gs x
-first_or_later g gs x has = at_cases g gs x has.0 has.1 has.2
+first_or_later g gs x has = search (arith, has.1, has.2)
 
 -- An empty list contains no guard.
 none_in : (x : Guard) → Contains [] x → ⊥
@@ -270,13 +263,9 @@ raise_up {k = k} {guards = guards} (Some block) {l} at raise guard has split =
     ]
 
 -- ---- a sweep, of which these were the first steps by then
--- a step of a sweep that puts no grain of the page moves none
-put_stays : (page word mask g : ℕ) → (page == g / 256) ≡ false → (if in_mask page word mask g then Puts else Stays) ≡ Stays
-put_stays page word mask g other = grind arith
-
 sweep_step : (s : Step) (answer g : ℕ) → is_in sweeping (kind_of s) ≡ true → ((page word mask : ℕ) → s ≡ Put page word mask → (page == g / 256) ≡ false)
     → grain_move s answer g ≡ Stays
-sweep_step s answer g kind puts = search (arith, put_stays, true≢false)
+sweep_step s answer g kind puts = search (arith, true≢false)
 
 puts_leave : (guard : Guard) (p : ℕ) (xs : List Made) → is_outer_of guard p ≡ true → Only sweeping xs → Always (PutsNoneOf guard) xs → (g : ℕ) → g / 256 ≡ p
     → StaysPut g xs
@@ -325,12 +314,9 @@ call_stands {f} {keeper} (Call.Sweep all said) {guards} {guards'} {l} {before} {
 clear_at_first : IsClear []
 clear_at_first = record { on = λ page. record { stamped = refl; owes = record { checks = λ word lt. refl; hint = refl }; examined = refl } }
 
-empty_stands : (f : Profile) (keeper : ℕ) (guards : List Guard) (l : Whole) → guards ≡ [] → part keeper l ≡ [] → BookStands f keeper guards l
-empty_stands f keeper guards l none no_steps = search (arith, clear_at_first, none_in)
-
 calls_stand : (f : Profile) (keeper : ℕ) → IsValid f → (calls : List Call) (guards : List Guard) (steps : List Made) → MakesCalls f keeper calls guards steps
     → (l : Whole) → Legal f l → part keeper l ≡ steps → BookStands f keeper guards l
-calls_stand f keeper valid [] guards steps made l legal is = empty_stands f keeper guards l made.0 (is ∙ made.1)
+calls_stand f keeper valid [] guards steps made l legal is = search (arith, clear_at_first, none_in, made.0, (is ∙ made.1))
 calls_stand f keeper valid (call ∷ calls) guards steps made l legal is =
     let at = is ∙ made.5 in call_stands call (record { valid = valid; legal = legal; is = at; agreed = agreed_of f l _ _ _ valid legal at; stood = calls_stand f _ valid calls _ _ made.3 }) made.4
 
@@ -471,13 +457,6 @@ give_in_parts guard (y ∷ ys) xs (inr h) = elim (give_in_parts guard ys xs h) [
 same_block : (b c : Block) → Give b ≡ Give c → b ≡ c
 same_block b c e = cc
 
-given_block : (guard : Guard) (page word answer : ℕ) (block : Block) → Once (GivesBlockOf guard) (give_steps page 0 block word answer) → block ≡ guard.block
-given_block guard page word answer block h = search (arith, same_block)
-
-guard_is : (d : Directory) (first k word : ℕ) (block : Block) (guard : Guard) → block ≡ run_block d (first + 1) k word → block ≡ guard.block → IsBeside guard
-    → guard_of first k block ≡ guard
-guard_is d first k word block guard is same beside = search (arith, guard.low, beside.begins, guard.high, beside.ends)
-
 raised_in_book : (f : Profile) (d : Directory) (k : ℕ) (guards guards' : List Guard) (searched after : List Made) (block : Block) (guard : Guard)
     → IsRaised f d k guards guards' searched after block → IsBeside guard → Once (GivesBlockOf guard) after → Contains guards' guard
 raised_in_book f d k guards guards' searched after block guard r beside gives =
@@ -485,12 +464,12 @@ raised_in_book f d k guards guards' searched after block guard r beside gives =
     let same : block ≡ guard.block = elim (give_in_parts guard r.left (given ++ r.backs) (subst (Once (GivesBlockOf guard)) r.after_is gives)) [
       | inl left ↦ absurd (none_gives returning guard r.left refl (raised_leaves r) left)
       | inr before ↦ elim (give_in_parts guard given r.backs before) [
-        | inl now ↦ given_block guard (r.first + 1) r.word r.answer block now
+        | inl now ↦ search (arith, same_block)
         | inr backs ↦ absurd (none_gives (Backing ∷ []) guard r.backs refl (raised_backs r) backs)
       ]
     ] in
     subst (λ xs. Contains xs guard) (sym r.raised) (subst (Contains (guards ++ guard_of r.first k block ∷ []))
-    (guard_is d r.first k r.word block guard r.block_is same beside) (Contains-push guards (guard_of r.first k block)))
+    (search (arith, beside.begins, beside.ends, r.block_is)) (Contains-push guards (guard_of r.first k block)))
 
 -- so it is up from the give on, and no call gives it but such a raise
 up_when_given : (f : Profile) (keeper : ℕ) (call : Call) (guards guards' : List Guard) (guard : Guard) (first rest : List Made)
@@ -584,10 +563,6 @@ record KeepsOn (f : Profile) (keeper : ℕ) (calls : List Call) (guards : List G
   called : MakesCalls f keeper calls guards (rest ++ part keeper l)
   agreed : Agreed f [] (rest ++ part keeper l)
 
--- its own step is first, or that of another leaves it
-none_earlier : (guard : Guard) (own : Bool) (m : Made) (xs : List Made) → Always (PutsNoneOf guard) (if own then m ∷ xs else xs) → Always (PutsNoneOf guard) xs
-none_earlier guard own m xs none = search arith
-
 module _ (f : Profile) (keeper : ℕ) (guard : Guard) (calls : List Call) (guards : List Guard) (rest : List Made) (give : Triple) (older : Whole)
     (valid : IsValid f) (given : GivesGuarded keeper guard give) where
   stands_here : (later newer : Whole) → KeepsOn f keeper calls guards rest (later ++ (newer ++ (give ∷ older))) → Always (PutsNoneOf guard) (part keeper newer)
@@ -604,7 +579,7 @@ module _ (f : Profile) (keeper : ℕ) (guard : Guard) (calls : List Call) (guard
   stands_since later [] keeps none = stands_here later [] keeps none
   stands_since later (t ∷ newer) keeps none =
       let l = newer ++ (give ∷ older) in one_more f keeper guard t newer _ valid (older_legal f later (t ∷ l) keeps.legal) (stands_here later (t ∷ newer) keeps none)
-      (stands_since (later ++ (t ∷ [])) newer (subst (KeepsOn f keeper calls guards rest) (sym (append_assoc later (t ∷ []) l)) keeps) (none_earlier guard (t.actor == keeper) t.made (part keeper newer) none))
+      (stands_since (later ++ (t ∷ [])) newer (subst (KeepsOn f keeper calls guards rest) (sym (append_assoc later (t ∷ []) l)) keeps) (search arith))
 
 -- A guard stands from the give of its block on, until its keeper puts a grain of it.
 pub stands_from_give : (f : Profile) (keeper : ℕ) (guard : Guard) (later newer older : Whole) (give : Triple) → IsValid f

@@ -1,13 +1,13 @@
 -- Guards that a sweep passes by, by looks that its desk was told.
-use Rattle.std.proofs.Common.{◌≡◌, ℕ, zero, suc, ◌+◌, ◌/◌, ◌<◌, ◌≤◌, Bool, true, false, ◌||◌, List, [], ◌∷◌, ◌++◌, length, refl, ap, sym, ◌∙◌, subst, arith}
+use Rattle.std.proofs.Common.{◌≡◌, ℕ, zero, suc, ◌+◌, ◌/◌, ◌<◌, ◌≤◌, Bool, false, ◌||◌, List, [], ◌∷◌, ◌++◌, length, refl, ap, sym, ◌∙◌, subst, arith}
 use Rattle.std.proofs.Common.{length-append}
 use Rattle.pas_profile.specs.{Profiles.{IsPage, IsValid, IsWordOf}, Blocks.address_of, declared.{guard.Guard.Guard, profile.Profile.Profile, word.Word.Word}}
 use Rattle.pas_records.specs.declared.record.Record.{Record}
 use Rattle.pas_scan.proofs.ToldLooks.{Told, look_told, adds_told}
 use Rattle.pas_steps.specs.{Agreement.{Agrees, Agreed}, Told.{StandsLater, StandsStill}, Views.View, Lists.{Whole, Legal, part, word_after}, Desks.Seat}
-use Rattle.pas_steps.specs.{Desks.{Standing, AnyView, CanCall, Adds, triples}, declared.step.{Made.Made, Step.TheVariants.Look}}
+use Rattle.pas_steps.specs.{Desks.{Standing, AnyView, CanCall, triples}, declared.step.{Made.Made, Step.TheVariants.Look}}
 use Rattle.pas_guard.specs.{Books.{Each, FitsBook, IsGuardOf}, Sweeps.{is_over, life_look, life_word_of, LooksOver}, Passing.{guard_at, AreOfRegion}}
-use Rattle.pas_guard.{specs.Passing.{KnowsAlive, alive_looks, PassesAlive}, proofs.Raises.{SweptSoFar, it_stays}}
+use Rattle.pas_guard.{specs.Passing.{KnowsAlive, alive_looks, PassesAlive}, proofs.Raises.{SweptSoFar, it_stays, next}}
 
 -- ---- looks that are told
 alive_many : (guards : List Guard) (words : ℕ → ℕ) (from n : ℕ) → length (alive_looks guards words from n) ≡ n
@@ -147,9 +147,9 @@ module _ {σ σ1 : Standing} {all : Bool} {guards up : List Guard} {place : ℕ}
   }
   stays_to (suc n) within agreed stay =
       let before = stays_to n (omega (arith, within)) (λ v l stood. (agreed v l stood).1) (λ j low high. stay j low (omega (arith, high))) in
-      let next : place + suc n ≡ place + n + 1 = omega arith in
-      subst (λ m. SweptSoFar all guards up m said said' σ (with_steps σ1 (looks_to (suc n)))) (sym next)
-      (it_stays before refl (omega (arith, within)) (look_on n agreed (stay (place + n) (omega arith) (omega arith))) refl)
+      let behind : place + suc n ≡ place + n + 1 = omega arith in
+      subst (λ m. SweptSoFar all guards up m said said' σ (with_steps σ1 (looks_to (suc n)))) (sym behind)
+      (it_stays before (next before refl (omega (arith, within))).rest_is (look_on n agreed (stay (place + n) (omega arith) (omega arith))) refl)
 
   -- Guards that are passed by stay up, and the sweep goes on behind them.
   pub they_stay : SweptSoFar all guards up last said said' σ σ2

@@ -23,13 +23,9 @@ use Rattle.pas_records.specs.declared.record.Record.{Record}
 or_false : (t : Bool) → (t || false) ≡ t
 or_false t = search arith
 
--- by its truth table
-or_later : (a b c : Bool) → (a || (b || c)) ≡ ((a || b) || c)
-or_later a b c = search arith
-
 outer_more : (gs : List Guard) (guard : Guard) (p : ℕ) → is_outer (gs ++ guard ∷ []) p ≡ (is_outer gs p || is_outer_of guard p)
 outer_more [] guard p = or_false (is_outer_of guard p)
-outer_more (g ∷ gs) guard p = ap (λ t. is_outer_of g p || t) (outer_more gs guard p) ∙ or_later (is_outer_of g p) (is_outer gs p) (is_outer_of guard p)
+outer_more (g ∷ gs) guard p = ap (λ t. is_outer_of g p || t) (outer_more gs guard p) ∙ (search arith)
 
 -- What is so of each guard of a book is so with one more of which it is so.
 pub each_more : (P : Guard → Type 0) (gs : List Guard) (guard : Guard) → Each P gs → P guard → Each P (gs ++ guard ∷ [])
@@ -47,28 +43,17 @@ each_known : (v w : View) (gs : List Guard) → ((p : ℕ) (e : Directory) → K
 each_known v w gs knows = each_map (KnowsGuard v) (KnowsGuard w) gs
     (λ g h. let e = large_directory g.block.heap in record { low = knows g.low e h.low; high = knows g.high e h.high })
 
--- The test says the same the other way round.
-turned : (a b : ℕ) → (a == b) ≡ false → (b == a) ≡ false
-turned a b h = ne_eqb b a (λ e. true≢false (sym (eq-eqb a b (sym e)) ∙ h))
-
 -- the new guard has other pages than this one
 other_guard : (a b : Guard) → is_outer_of a b.low ≡ false → is_outer_of a b.high ≡ false → (is_outer_of b a.low ≡ false) × (is_outer_of b a.high ≡ false)
-other_guard a b low high = search (arith, or_parts, or_from, turned)
+other_guard a b low high = search (arith, or_parts, or_from, ne_eqb, true≢false, eq-eqb)
 
 apart_more : (gs : List Guard) (guard : Guard) → AreApart gs → is_outer gs guard.low ≡ false → is_outer gs guard.high ≡ false → AreApart (gs ++ guard ∷ [])
 apart_more [] guard apart low high = (refl, refl, tt)
 apart_more (g ∷ gs) guard apart low high =
     let x = or_parts (is_outer_of g guard.low) (is_outer gs guard.low) low in let y = or_parts (is_outer_of g guard.high) (is_outer gs guard.high) high in
-    let other = other_guard g guard x.0 y.0 in (
-      outer_more gs guard g.low ∙ or_from (is_outer gs g.low) (is_outer_of guard g.low) apart.0 other.0,
-      outer_more gs guard g.high ∙ or_from (is_outer gs g.high) (is_outer_of guard g.high) apart.1 other.1,
-      apart_more gs guard apart.2 x.1 y.1,
-    )
+    let other = other_guard g guard x.0 y.0 in search (arith, outer_more, or_from, (apart_more gs guard apart.2 x.1 y.1))
 
 -- ---- the grains that are held
-raised_in : (inner outer : Bool) → (inner || outer) ≡ true → (inner ≡ true → outer ≡ false) → now (if inner then Lost else Kept) true ≡ outer
-raised_in inner outer one apart = search arith
-
 in_or_outer : (first k p : ℕ) → in_span first (first + (k + 2)) p ≡ true
     → (in_span (first + 1) (first + 1 + k) p || ((first == p) || (first + k + 1 == p))) ≡ true
 in_or_outer first k p is = grind (arith, nat_tests)
@@ -76,17 +61,10 @@ in_or_outer first k p is = grind (arith, nat_tests)
 in_not_outer : (first k p : ℕ) → in_span (first + 1) (first + 1 + k) p ≡ true → ((first == p) || (first + k + 1 == p)) ≡ false
 in_not_outer first k p is = grind (arith, nat_tests)
 
-page_again : (p : ℕ) → p * 4096 / 4096 ≡ p
-page_again p = omega arith
-
 -- of a page of the run
 raised_here : (first k p : ℕ) → in_span first (first + (k + 2)) p ≡ true
     → now (if in_span (first + 1) (first + 1 + k) p then Lost else Kept) true ≡ ((first == p) || (first + k + 1 == p))
-raised_here first k p is = raised_in _ ((first == p) || (first + k + 1 == p)) (in_or_outer first k p is) (in_not_outer first k p)
-
--- of another page
-raised_out : (first k p : ℕ) → in_span first (first + (k + 2)) p ≡ false → ((first == p) || (first + k + 1 == p)) ≡ false
-raised_out first k p out = grind (arith, nat_tests)
+raised_here first k p is = search (arith, (in_or_outer first k p is), (in_not_outer first k p))
 
 inner_out : (first k p : ℕ) → in_span first (first + (k + 2)) p ≡ false → in_span (first + 1) (first + 1 + k) p ≡ false
 inner_out first k p out = grind (arith, nat_tests)
@@ -113,22 +91,16 @@ module _ (f : Profile) (heap first k : ℕ) (gs : List Guard) (block : Block) wh
     new_page p is = let at : p * 256 / 256 ≡ p = omega arith in ap (is_outer gs) (sym at) ∙ sym (fits.held (p * 256)) ∙ span.got.apart (p * 256) (ap run at ∙ is)
 
     held_now : (g : ℕ) → holds u g ≡ is_outer (gs ++ guard ∷ []) (g / 256)
-    held_now g = search (arith, cases_Bool, raised_here, new_page, inner_out, or_false, raised_out, outer_more)
-
-    rights_now : (q : ℕ) → has_right u q ≡ false
-    rights_now q = search (arith, cases_Bool)
+    held_now g = search (arith, cases_Bool, raised_here, new_page, inner_out, or_false, nat_tests, outer_more)
 
     fits_more : 1 ≤ first → first + (k + 2) ≤ f.pages + 1 → heap < f.heaps → 1 ≤ k → block.heap ≡ heap → address_of block.name / 4096 ≡ first + 1
         → ((p : ℕ) (e : Directory) → KnowsDeed p e v → KnowsDeed p e u) → FitsBook f (gs ++ guard ∷ []) u
     fits_more low high of some of_heap at knows = record {
       apart = apart_more gs guard fits.apart (new_page first low_in) (new_page (first + k + 1) high_in);
       of_region = search (arith, each_more);
-      knows = each_more (KnowsGuard u) gs guard (each_known v u gs knows fits.knows) (record {
-        low = subst (λ h. KnowsDeed first (large_directory h) u) (sym of_heap) (guarded.deeds first low_in);
-        high = subst (λ h. KnowsDeed (first + k + 1) (large_directory h) u) (sym of_heap) (guarded.deeds (first + k + 1) high_in);
-      });
+      knows = search (arith, each_more, each_known, low_in, high_in, guarded.deeds);
       held = held_now;
-      rights = rights_now;
+      rights = λ q. search (arith, cases_Bool);
       clear = record { on = λ q. guarded.does.clear q (span.got.does.clear q (fits.clear.on q)) };
     }
 
@@ -185,14 +157,7 @@ can_seek {σ} heap n spare gs some can = record { view = can.view; whole = can.w
 pub fits_nothing : (f : Profile) (gs : List Guard) (v w : View) → FitsBook f gs v → Does nothing v w
     → ((p : ℕ) (e : Directory) → KnowsDeed p e v → KnowsDeed p e w)
     → FitsBook f gs w
-fits_nothing f gs v w fits still knows = record {
-  apart = fits.apart;
-  of_region = fits.of_region;
-  knows = each_known v w gs knows fits.knows;
-  held = λ g. still.held g ∙ fits.held g;
-  rights = λ q. still.right q ∙ fits.rights q;
-  clear = record { on = λ q. still.clear q (fits.clear.on q) };
-}
+fits_nothing f gs v w fits still knows = search (arith, each_known, still.held, fits.held, still.right, fits.rights, still.clear, fits.clear.on)
 
 -- Where the search found no run, no guard is raised, and the book stays as it is.
 pub not_raised : {σ σ1 : Standing} (heap k : ℕ) (gs : List Guard) → Seeks (large_directory heap) k σ σ1 None → Raises heap k gs gs σ σ1 None
@@ -263,7 +228,7 @@ module _ {σ σ1 : Standing} (heap k first : ℕ) (gs : List Guard) (seek : Seek
                 let span = sought.leads.from v met before in let guarded = later.from (seek.steps ++ v) (sought_pages v met span) next in
                 subst (FitsBook f_ (gs ++ guard_of first k block ∷ [])) (sym (append_assoc after seek.steps v))
                 (fits_more f_ heap first k gs block v _ _ met span guarded seek.outcome.of_region.0 seek.outcome.of_region.1 of some (ap (λ b. b.heap) g.block_is)
-                (ap (λ (b : Block). address_of b.name / 4096) g.block_is ∙ page_again (first + 1))
+                (ap (λ (b : Block). address_of b.name / 4096) g.block_is ∙ (omega arith))
                 (λ p e knows. knows_still f_ e p after (seek.steps ++ v) next (knows_still f_ e p seek.steps v before knows)));
           };
           kinds = seek.kinds;
@@ -274,9 +239,8 @@ module _ {σ σ1 : Standing} (heap k first : ℕ) (gs : List Guard) (seek : Seek
               steady_both x after seek.steps (after_steady d_ first k g.word g.answer block g.block_is g.left g.backs left
               (only_backs (first + 1) k g.backs g.back_order) x (inner (x / 256) (out v met before (x / 256) is)))
               (seek.steady v (fits_find f_ d_ gs v met) before (x / 256) (whole_outer f_ gs v met (x / 256) is) x refl);
-          unbacked = λ v met agreed p is. let apart = inner p (out v met (agreed_later f_ v after seek.steps agreed) p is) in backs_both p after seek.steps
-              (after_unbacked d_ first k g.word g.answer block g.block_is g.left g.backs left (backs_in (first + 1) k g.backs g.back_order) p apart)
-              (no_backs seeking p seek.steps refl seek.kinds);
+          unbacked = λ v met agreed p is. let apart = inner p (out v met (agreed_later f_ v after seek.steps agreed) p is) in
+              search (arith, backs_both, after_unbacked, backs_in, no_backs);
           few = (let j = length-append after seek.steps in omega (arith, seek.few, j, g.few));
           outcome = record {
             first = first;
@@ -305,13 +269,9 @@ taken_out [] rs g = refl
 taken_out (k ∷ ks) rs g = ap (λ xs. k ∷ xs) (taken_out ks rs g)
 
 -- ---- a book without it
--- by its truth table
-or_swap : (a b c : Bool) → (a || (b || c)) ≡ (b || (a || c))
-or_swap a b c = search arith
-
 outer_split : (ks rs : List Guard) (g : Guard) (p : ℕ) → is_outer (ks ++ g ∷ rs) p ≡ (is_outer_of g p || is_outer (ks ++ rs) p)
 outer_split [] rs g p = refl
-outer_split (k ∷ ks) rs g p = ap (λ t. is_outer_of k p || t) (outer_split ks rs g p) ∙ or_swap (is_outer_of k p) (is_outer_of g p) (is_outer (ks ++ rs) p)
+outer_split (k ∷ ks) rs g p = ap (λ t. is_outer_of k p || t) (outer_split ks rs g p) ∙ (search arith)
 
 each_split : (P : Guard → Type 0) (ks rs : List Guard) (g : Guard) → Each P (ks ++ g ∷ rs) → P g × Each P (ks ++ rs)
 each_split P [] rs g h = h
@@ -327,17 +287,13 @@ apart_split (k ∷ ks) rs g h =
 not_outer : (ks rs : List Guard) (g : Guard) (p : ℕ) → AreApart (ks ++ g ∷ rs) → is_outer_of g p ≡ true → is_outer (ks ++ rs) p ≡ false
 not_outer ks rs g p apart is = search (arith, apart_split, cases_Bool, eqb-true)
 
--- what one guard loses is held by no other
-held_less : (t rest : Bool) → (t ≡ true → rest ≡ false) → now (if t then Lost else Kept) (t || rest) ≡ rest
-held_less t rest none = search arith
-
 fits_less : (f : Profile) (ks rs : List Guard) (g : Guard) (v w : View) → FitsBook f (ks ++ g ∷ rs) v → Does (lowered g) v w
     → ((q : ℕ) → has_right w q ≡ has_right v q) → ((p : ℕ) (e : Directory) → KnowsDeed p e v → KnowsDeed p e w) → FitsBook f (ks ++ rs) w
 fits_less f ks rs g v w fits does rights knows = record {
   apart = (apart_split ks rs g fits.apart).0;
   of_region = (each_split (IsGuardOf f) ks rs g fits.of_region).1;
   knows = each_known v w (ks ++ rs) knows (each_split (KnowsGuard v) ks rs g fits.knows).1;
-  held = λ x. does.held x ∙ ap (now _) (fits.held x ∙ outer_split ks rs g (x / 256)) ∙ held_less _ _ (not_outer ks rs g (x / 256) fits.apart);
+  held = λ x. does.held x ∙ ap (now _) (fits.held x ∙ outer_split ks rs g (x / 256)) ∙ (search (arith, (not_outer ks rs g (x / 256) fits.apart)));
   rights = λ q. rights q ∙ fits.rights q;
   clear = record { on = λ q. does.clear q (fits.clear.on q) };
 }
@@ -366,27 +322,14 @@ swept_more all k [] kept said xs g word first mine mine_said h one = (
   ap (λ y. (first ++ life_look g word) ++ y) h.2 ∙ append-nil (first ++ life_look g word),
 )
 swept_more all k (p ∷ ps) kept said xs g word first mine mine_said h one =
-    let rest = h.2 in let after = h.3 in let more = h.4 in (
-      h.0,
-      h.1,
-      (first ++ life_look g word) ++ rest,
-      after ++ mine,
-      more ++ mine_said,
-      joined_one (all || is_over p h.0) k p h.1 kept after mine said more mine_said h.5,
-      swept_more all k ps after more rest g word first mine mine_said h.6 one,
-      ap (λ y. (first ++ life_look g word) ++ y) h.7 ∙ sym (append_assoc (first ++ life_look g word) rest (h.1 ++ life_look p h.0)),
-    )
+    let rest = h.2 in let after = h.3 in let more = h.4 in
+    search (arith, joined_one, append_assoc, h.1, (swept_more all k ps after more rest g word first mine mine_said h.6 one))
 
 -- ---- what its steps are, and how many
 one_kinds : (t : Bool) (k : ℕ) (guard : Guard) (first : List Made) (kept after : List Guard) (said more : List Record)
     → SweptOne t k guard first kept after said more → Only sweeping first
 one_kinds true k guard first kept after said more h = let low = h.0 in only_within giving_back sweeping first refl low.kinds
 one_kinds false k guard first kept after said more h = subst (Only sweeping) (sym h.0) tt
-
--- a lowering has at most 24 steps
-one_few : (t : Bool) (k : ℕ) (guard : Guard) (first : List Made) (kept after : List Guard) (said more : List Record)
-    → SweptOne t k guard first kept after said more → length first ≤ 24
-one_few t k guard first kept after said more h = search arith
 
 swept_kinds : (all : Bool) (k : ℕ) (guards kept : List Guard) (said : List Record) (steps : List Made) → Swept all k guards kept said steps
     → Only sweeping steps
@@ -397,7 +340,7 @@ swept_few : (all : Bool) (k : ℕ) (guards kept : List Guard) (said : List Recor
     → length steps ≤ 25 * length guards
 swept_few all k [] kept said steps h = let none = ap (λ (xs : List Made). length xs) h.2 in omega (arith, none)
 swept_few all k (guard ∷ guards) kept said steps h =
-    let rest = swept_few all k guards h.3 h.4 h.2 h.6 in grind (arith, rest, one_few, length-append)
+    let rest = swept_few all k guards h.3 h.4 h.2 h.6 in grind (arith, rest, length-append)
 
 -- The first guards were swept: those that stayed up stand before the others, which come next.
 pub record SweptSoFar (all : Bool) (guards now_up : List Guard) (place : ℕ) (said said' : List Record) (desk desk' : Standing) : Type 0 where
@@ -480,13 +423,14 @@ module _ {σ σ1 : Standing} {all : Bool} {guards up : List Guard} {place : ℕ}
       };
     }
 
-    can_lower : CanCall σ (FitsBook f guards) → CanCall σ2 (MayLower σ2.seat.profile guard)
-    can_lower can = subst (λ (s : Seat). CanCall σ2 (MayLower s.profile guard)) (sym looked.adds.seat_is)
+    -- After the look over a guard, it may be lowered.
+    pub can_lower_it : CanCall σ (FitsBook f guards) → CanCall σ2 (MayLower σ2.seat.profile guard)
+    can_lower_it can = subst (λ (s : Seat). CanCall σ2 (MayLower s.profile guard)) (sym looked.adds.seat_is)
         (next_call looked can (λ v met fits. may_lower f so.kept later guard ((ls ++ so.steps) ++ v) (fits_split ((ls ++ so.steps) ++ v) fits)))
 
-    -- it stays up
-    stays_up : down ≡ false → SweptSoFar all guards up (place + 1) said said' σ σ2
-    stays_up stays =
+    -- A guard that stays up is looked over, and the sweep goes on with the next one.
+    pub it_stays : down ≡ false → SweptSoFar all guards up (place + 1) said said' σ σ2
+    it_stays stays =
         let test : (all || is_over guard look.word) ≡ false = sym look.down_is ∙ stays in record {
           done = so.done ++ guard ∷ [];
           kept = so.kept ++ guard ∷ [];
@@ -513,9 +457,10 @@ module _ {σ σ1 : Standing} {all : Bool} {guards up : List Guard} {place : ℕ}
       met_low : (v : View) → FitsBook f up ((ls ++ so.steps) ++ v) → MayLower f guard ((ls ++ so.steps) ++ v)
       met_low v fits = may_lower f so.kept later guard ((ls ++ so.steps) ++ v) (fits_split ((ls ++ so.steps) ++ v) fits)
 
-      goes_down : {up' : List Guard} {said'' : List Record} → up' ≡ remove up place → said'' ≡ said' ++ lowered_record σ.seat.actor guard ∷ []
+      -- A guard that was lowered is taken out of the book, and its line is said.
+      pub it_goes : {up' : List Guard} {said'' : List Record} → up' ≡ remove up place → said'' ≡ said' ++ lowered_record σ.seat.actor guard ∷ []
           → SweptSoFar all guards up' place said said'' σ σ3
-      goes_down {up'} out pushed =
+      it_goes {up'} out pushed =
           let test : (all || is_over guard look.word) ≡ true = sym look.down_is ∙ falls in
           let less = out ∙ ap (λ n. remove up n) (sym so.at) ∙ ap (λ xs. remove xs (length so.kept)) up_is ∙ taken_out so.kept later guard in
           let steps = ps ++ (ls ++ so.steps) in record {
@@ -546,7 +491,7 @@ module _ {σ σ1 : Standing} {all : Bool} {guards up : List Guard} {place : ℕ}
 module _ {σ σ1 : Standing} {all : Bool} {guards up : List Guard} {place : ℕ} {said said' : List Record} (so : SweptSoFar all guards up place said said' σ σ1)
     {guard : Guard} (read : guard ≡ slice_index_or up place no_guard) (lt : place < length up) where
   -- The next guard of the sweep.
-  next : NextGuard up so.kept so.rest guard
+  pub next : NextGuard up so.kept so.rest guard
   next = subst (NextGuard up so.kept so.rest) (sym read) (next_guard so.kept so.rest up place no_guard so.up so.at lt)
 
   -- its block stands in the region
@@ -560,20 +505,6 @@ module _ {σ σ1 : Standing} {all : Bool} {guards up : List Guard} {place : ℕ}
   pub may_look : CanCall σ (FitsBook σ.seat.profile guards) → CanCall σ1 AnyView
   may_look can = record { view = so.steps ++ can.view; whole = _; stood = so.calls.adds.added can.view can.whole can.stood can.met; met = tt }
 
-  module _ {σ2 : Standing} {down : Bool} (look : LooksOver all guard σ1 σ2 down) where
-    -- After the look over a guard, it may be lowered.
-    pub can_lower_it : CanCall σ (FitsBook σ.seat.profile guards) → CanCall σ2 (MayLower σ2.seat.profile guard)
-    can_lower_it can = can_lower so next.rest_is look can
-
-    -- A guard that stays up is looked over, and the sweep goes on with the next one.
-    pub it_stays : down ≡ false → SweptSoFar all guards up (place + 1) said said' σ σ2
-    it_stays stays = stays_up so next.rest_is look stays
-
-    -- A guard that was lowered is taken out of the book, and its line is said.
-    pub it_goes : {σ3 : Standing} {up' : List Guard} {said'' : List Record} → down ≡ true → Lowers guard σ2 σ3 → up' ≡ remove up place
-        → said'' ≡ said' ++ lowered_record σ.seat.actor guard ∷ [] → SweptSoFar all guards up' place said said'' σ σ3
-    it_goes falls low out pushed = goes_down so next.rest_is look falls low out pushed
-
   -- A guard that was taken out of the book leaves one fewer up.
   pub one_less : {up' : List Guard} → up' ≡ remove up place → length up' + 1 ≡ length up
   one_less out =
@@ -583,9 +514,6 @@ module _ {σ σ1 : Standing} {all : Bool} {guards up : List Guard} {place : ℕ}
       let n = length-append so.kept (guard ∷ next.later) in omega (arith, a, b, m, n)
 
 -- ---- guards that stay up
-mine_not : (mine other : Bool) → other ≡ true → (mine ≡ true → other ≡ false) → mine ≡ false
-mine_not mine other is not = search (arith, true≢false)
-
 -- steps of a sweep are on pages of guards that go down
 one_steady : (t : Bool) (k : ℕ) (guard : Guard) (first : List Made) (kept after : List Guard) (said more : List Record) (g : ℕ)
     → SweptOne t k guard first kept after said more → is_outer_of guard (g / 256) ≡ false → StaysPut g first
@@ -617,19 +545,15 @@ among all k (guard ∷ guards) kept said steps p h is = elim (one_among (all || 
   | inr after ↦ or_right (is_outer_of guard p) (is_outer guards p) (among all k guards h.3 h.4 h.2 p h.6 after)
 ]
 
-stays_steady : (t : Bool) (k : ℕ) (guard : Guard) (first : List Made) (kept after : List Guard) (said more : List Record) (g : ℕ)
-    → SweptOne t k guard first kept after said more → t ≡ false → StaysPut g first
-stays_steady t k guard first kept after said more g h up = search (arith, true≢false)
-
 -- A sweep moves no grain of an outer page of a guard that it leaves up.
 pub kept_steady : (all : Bool) (k : ℕ) (guards kept : List Guard) (said : List Record) (steps : List Made) → AreApart guards
     → Swept all k guards kept said steps → (g : ℕ) → is_outer kept (g / 256) ≡ true → StaysPut g steps
 kept_steady all k [] kept said steps apart h g is = subst (StaysPut g) (sym h.2) tt
 kept_steady all k (guard ∷ guards) kept said steps apart h g is = elim (one_among (all || is_over guard h.0) k guard h.1 kept h.3 said h.4 (g / 256) h.5 is) [
-  | inl mine ↦ search (arith, piece_steady, stays_steady, none_steady, not_outer)
+  | inl mine ↦ search (arith, piece_steady, true≢false, none_steady, not_outer)
   | inr after ↦ (let old = among all k guards h.3 h.4 h.2 (g / 256) h.6 after in
       piece_steady guard h.0 h.1 h.2 steps g h.7
-      (one_steady (all || is_over guard h.0) k guard h.1 kept h.3 said h.4 g h.5 (mine_not _ (is_outer guards (g / 256)) old (not_outer [] guards guard (g / 256) apart)))
+      (one_steady (all || is_over guard h.0) k guard h.1 kept h.3 said h.4 g h.5 (search (arith, true≢false, (not_outer [] guards guard (g / 256) apart))))
       (kept_steady all k guards h.3 h.4 h.2 apart.2 h.6 g after))
 ]
 

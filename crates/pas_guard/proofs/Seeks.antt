@@ -1,12 +1,12 @@
 -- The search for a run whose outer pages aren't backed, one turn more.
-use Rattle.std.proofs.Common.{ℕ, ◌+◌, ◌*◌, ◌/◌, ◌<◌, ◌≤◌, ◌==◌, Bool, true, false, ◌||◌, MatchBool, List, [], ◌∷◌, ◌++◌, refl, ◌∙◌, inl, inr, ◌⊎◌, arith}
-use Rattle.std.proofs.Common.{Option, ◌≡◌, ◌≢◌, Some, None, ap, sym, subst, append_assoc, true≢false, length, length-append, eqb-true, eq-eqb, append-nil}
-use Rattle.std.proofs.lemmas.Bool.{cases_lt, cases_eq, cases_Bool}
-use Rattle.pas_large.proofs.Claims.{narrower, steady_on, steady_both, out_of, span_in, in_parts, span_past, has_got, room_after, alone_on, orderly_claim}
-use Rattle.pas_large.proofs.{Finds.{DeedOf, bad_later, alone_looks, knew, deeds_map, may_find, deeds_later, alone_later}, Pages.{Orderly, orderly_later}}
-use Rattle.pas_large.{proofs.Pages.orderly_wider, specs.Claims.{StaysPut, in_span, MayClaimPages, HasRunRoom, AloneFrom, DeedsIn, HasPages, Releases}}
-use Rattle.pas_large.specs.{Claims.{ClaimsRun, HoldsRun, FailsRun, HoldsSpan}, Evidence.{LostHere, BrokenHere, BadHere, AllUsable, FailsHere, HasFailed}}
-use Rattle.pas_large.specs.{Evidence.DeedsOf, Finds.{MayFind, FindRoom}}
+use Rattle.std.proofs.Common.{ℕ, ◌+◌, ◌*◌, ◌/◌, ◌<◌, ◌≤◌, ◌==◌, Bool, true, false, ◌||◌, List, [], ◌∷◌, ◌++◌, refl, ◌∙◌, inl, inr, ◌⊎◌, arith, Option, ◌≡◌, ◌≢◌}
+use Rattle.std.proofs.{Common.{Some, None, ap, sym, subst, append_assoc, true≢false, length, length-append, eqb-true, eq-eqb, append-nil}, lemmas.Bool.cases_lt}
+use Rattle.std.proofs.lemmas.Bool.{cases_eq, cases_Bool}
+use Rattle.pas_large.proofs.Claims.{narrower, steady_on, steady_both, steady_holds, out_of, span_in, in_parts, span_past, has_got, room_after, alone_on}
+use Rattle.pas_large.proofs.{Claims.orderly_claim, Finds.{DeedOf, bad_later, alone_looks, knew, deeds_map, may_find, deeds_later, alone_later}, Pages.Orderly}
+use Rattle.pas_large.{proofs.Pages.{orderly_later, orderly_wider}, specs.Claims.{StaysPut, in_span, MayClaimPages, HasRunRoom, AloneFrom, DeedsIn, HasPages}}
+use Rattle.pas_large.specs.{Claims.{Releases, ClaimsRun, HoldsRun, FailsRun, HoldsSpan}, Evidence.{LostHere, BrokenHere, BadHere, AllUsable, FailsHere}}
+use Rattle.pas_large.specs.{Evidence.{HasFailed, DeedsOf}, Finds.{MayFind, FindRoom}}
 use Rattle.pas_bits.specs.Bits.{has_bit}
 use Rattle.pas_profile.specs.declared.{directory.Directory.Directory, profile.Profile.Profile, word.Word.Word}
 use Rattle.pas_rights.{specs.{Puts.masked, PutsBack.{giving_back, MayPutAndLeave, PutsAndLeaves}, Words.full}, proofs.Orders.keeps_by}
@@ -14,16 +14,16 @@ use Rattle.pas_scan.specs.{Runs.{page_looks, IsFirstRun, HasNoRun, HasUnusable, 
 use Rattle.pas_scan.proofs.LeftPages.{usable_before, usable_later, unusable_before, left_alone_by, lacks_by}
 use Rattle.pas_steps.specs.{Agreement.{Agrees, Agreed}, Evidence.ReadsFree, Frames.KeepsRight, Past.{Once, Always, Since}, Unknown.unknown_pages, Calls.Calls}
 use Rattle.pas_steps.specs.{Calls.{Leads, nothing, Does}, Desks.{Seat, Standing, AnyView, Adds, CanCall, Makes, made}, declared.step.Step.Step}
-use Rattle.pas_steps.specs.{declared.step.{Step.TheVariants.{Deed, Look}, Made.Made}, Kinds.{Kinds, Only, kind_of, is_in, apart, moving, within, changing}}
-use Rattle.pas_steps.{specs.Views.{View, held_after, holds, has_right, KnowsDeed}, proofs.Adding.{adds_none, adds_step, adds_call, agreed_first, agreed_later}}
-use Rattle.pas_steps.proofs.{Apart.{in_apart, grain_same, holds_same}, Called.{call_then, next_call}, Frames.{right_own, right_on, knows_still}}
-use Rattle.pas_steps.proofs.{SpareRoom.Spares, Evidence.unknown, Calls.{does_none, does_idly, leads_none, leads_at}, Past.{once_later, once_earlier, once_map}}
-use Rattle.pas_steps.proofs.Past.{always_both, always_map}
+use Rattle.pas_steps.specs.{declared.step.{Step.TheVariants.Look, Made.Made}, Kinds.{Kinds, Only, apart, moving, within, changing}, Views.{View, holds}}
+use Rattle.pas_steps.{specs.Views.{has_right, KnowsDeed}, proofs.{Adding.{adds_none, adds_step, adds_call, agreed_first, agreed_later}, Apart.in_apart}}
+use Rattle.pas_steps.proofs.{Apart.{grain_same, holds_same}, Called.{call_then, next_call}, Frames.{right_own, right_on, knows_still}, SpareRoom.Spares}
+use Rattle.pas_steps.proofs.{Evidence.unknown, Calls.{does_none, does_idly, leads_none, leads_at}, Past.{once_later, once_earlier, once_map, always_both}}
+use Rattle.pas_steps.proofs.Past.{always_map}
 use Rattle.pas_search.{specs.Kinds.ReturnsDuly, proofs.PagesThatServe.{duly_both, duly_none}}
 use Rattle.pas_guard.proofs.Guarded.{no_span, span_kept, span_beside, span_joined, claim_keeps, span_of_none, span_then, span_lost, span_both, out_later}
 use Rattle.pas_guard.{proofs.Guarded.{but_first, span_slid, span_has, span_holds, span_spares, release_duly, first_duly}, specs.Evidence.BackedReadHere}
-use Rattle.pas_guard.specs.{Evidence.{HoldsRunWhole, OuterBackedHere, IsBad, OuterFailsHere, HasFailedOnce}, Guarded.LeavesGuard, Seeks.LeftSince}
-use Rattle.pas_guard.specs.Seeks.{backed_looks, ZeroBackedHere, SomeBackedHere, LooksBacked, HoldsWhole, HasSpan, seeking, Seeks}
+use Rattle.pas_guard.specs.{Evidence.{HoldsRunWhole, OuterBackedHere, IsBad, OuterFailsHere, HasFailedOnce}, Seeks.{LeftSince, backed_looks, ZeroBackedHere}}
+use Rattle.pas_guard.specs.Seeks.{SomeBackedHere, LooksBacked, HoldsWhole, HasSpan, seeking, Seeks}
 
 -- ---- evidence, and later steps
 bad_more : (v : View) (d : Directory) (k s : ℕ) (ys xs : List Made) → IsBad v d k s xs → IsBad v d k s (ys ++ xs)
@@ -53,15 +53,11 @@ outer_some f v page R (m ∷ ls) ss had only agreed held (inl h) = inl (
 )
 outer_some f v page R (m ∷ ls) ss had only agreed held (inr h) = inr (outer_some f v page R ls ss had only.1 agreed.1 held h)
 
--- a look at a backed word leaves each page alone
-look_leaves : (page : ℕ) (m : Made) → is_in backed_looks (kind_of m.step) ≡ true → LeavesGuard page m
-look_leaves page m is = search (arith, grain_same, in_apart, true≢false)
-
 outer_zero : (v : View) (page : ℕ) (ls ss : List Made) → Only backed_looks ls → ((g : ℕ) → g / 256 ≡ page → holds (ss ++ v) g ≡ true)
     → Once (ZeroBackedHere page) ls → Since (BackedReadHere v page 0) (LeftSince page) (ls ++ ss)
 outer_zero v page [] ss only held h = absurd h
 outer_zero v page (m ∷ ls) ss only held (inl h) = inl (h.0, h.1, λ g at. ap (λ s. holds s g) (append_assoc ls ss v) ∙ holds_same backed_looks refl g ls (ss ++ v) only.1 ∙ held g at)
-outer_zero v page (m ∷ ls) ss only held (inr h) = inr (look_leaves page m only.0, outer_zero v page ls ss only.1 held h)
+outer_zero v page (m ∷ ls) ss only held (inr h) = inr (search (arith, grain_same, in_apart, true≢false, only.0), outer_zero v page ls ss only.1 held h)
 
 -- ---- pages that were held whole before
 pub steady_kinds : (ks : Kinds) → apart ks moving ≡ true → (g : ℕ) (ys : List Made) → Only ks ys → StaysPut g ys
@@ -78,15 +74,6 @@ steady_later ks f d ys xs none only still v met agreed p whole g at = search (ar
 abbrev BadBelow : Profile → Directory → ℕ → ℕ → List Made → Type 0
 BadBelow f d k from steps = (v : View) → MayFind d v → Agreed f v steps → (s : ℕ) → 1 ≤ s → s < from → IsBad v d k s steps
 
--- a grain that stays put is held still, and isn't got by the steps
-still_held : (g : ℕ) (ys : List Made) (v : View) → StaysPut g ys → holds (ys ++ v) g ≡ holds v g
-still_held g [] v stays = refl
-still_held g (m ∷ ys) v stays = ap (λ x. held_after x (holds (ys ++ v) g)) stays.0 ∙ still_held g ys v stays.1
-
-never_got : (g : ℕ) (ys : List Made) → StaysPut g ys → holds ys g ≡ false
-never_got g [] stays = refl
-never_got g (m ∷ ys) stays = ap (λ x. held_after x (holds ys g)) stays.0 ∙ never_got g ys stays.1
-
 -- the first grain of a page, where it is held, reads as used
 first_bit : (f : Profile) (v : View) (p : ℕ) (s : Step) (a : ℕ) → ReadsFree p 0 s → Agrees f v s a → holds v (p * 256 + 0) ≡ true → has_bit a 0 ≡ false
 first_bit f v p s a h agrees held = grind arith
@@ -100,8 +87,8 @@ used_here f v p [] agreed h held stays = h
 used_here f v p (m ∷ xs) agreed (inr h) held stays = used_here f v p xs agreed.1 h held (λ g at. (stays g at).1)
 used_here f v p (m ∷ xs) agreed (inl h) held stays =
     let at : (p * 256 + 0) / 256 ≡ p = omega arith in
-    let own = never_got (p * 256 + 0) xs (stays (p * 256 + 0) at).1 in
-    let now_held = still_held (p * 256 + 0) xs v (stays (p * 256 + 0) at).1 ∙ held (p * 256 + 0) at in
+    let own = ap (λ s. holds s (p * 256 + 0)) (sym (append-nil xs)) ∙ steady_holds (p * 256 + 0) xs [] (stays (p * 256 + 0) at).1 in
+    let now_held = steady_holds (p * 256 + 0) xs v (stays (p * 256 + 0) at).1 ∙ held (p * 256 + 0) at in
     true≢false (sym (h.1 0 (omega arith)) ∙ either_false (first_bit f (xs ++ v) p m.step m.answer h.0 agreed.0 now_held) own)
 
 -- it is read as not usable
@@ -479,9 +466,7 @@ module _ {σ σ1 : Standing} {d : Directory} {k from free next : ℕ} (so : Soug
             from = λ v met agreed.
                 let before = agreed_later f v zs xs agreed in let after = agreed_first f v zs xs agreed in let has = so_call.leads.from v met before in
                 let new = holds_it.got.from (xs ++ v) has.1 after in
-                subst (HasSpan d from next v) (sym (append_assoc zs xs v)) (span_both d from free next first last has.0
-                (λ p ge lt. sym (span_spares has.0 p (span_past from free p ge)) ∙ new.lacked p (span_in free next p ge lt))
-                new (λ p knows. knows_still f d p zs (xs ++ v) after knows));
+                search (arith, append_assoc, span_both, span_spares, span_past, span_in, knows_still, new.lacked);
           };
           orderly = claim_orderly claim next last claim.made;
           lacks = λ p out. right_own p zs xs (so.lacks p (narrower _ _ next p last out)) ∙ ap (λ s. has_right s p) (sym (append-nil zs)) ∙ holds_it.lacks [] (λ q. refl) p (out_later from free next p first out);
@@ -671,12 +656,6 @@ look_at page a = made (Look (Word.Backed page)) a
 pub looks_low : {σ σ1 : Standing} (low high a : ℕ) → a ≢ 0 → Makes σ σ1 (Look (Word.Backed low)) a → LooksBacked low high σ σ1 false
 looks_low low high a some makes = record { steps = look_at low a ∷ []; adds = search (arith, adds_step, adds_none); kinds = (refl, tt); few = omega arith; outcome = inl (inl (refl, some)) }
 
-two_reads : (low high a b : ℕ) → a ≡ 0 → (bare : Bool) → (b == 0) ≡ bare
-    → MatchBool bare (Once (ZeroBackedHere low) (look_at high b ∷ look_at low a ∷ [])
-    × Once (ZeroBackedHere high) (look_at high b ∷ look_at low a ∷ [])) (Once (SomeBackedHere low) (look_at high b ∷ look_at low a ∷ [])
-    ⊎ Once (SomeBackedHere high) (look_at high b ∷ look_at low a ∷ []))
-two_reads low high a b bare h is = search (arith, eqb-true, true≢false, eq-eqb)
-
 -- The backed words of both outer pages show whether the run can be guarded, where the low one is 0.
 pub looks_both : {σ σ1 σ2 : Standing} (low high a b : ℕ) (bare : Bool) → a ≡ 0 → (b == 0) ≡ bare → Makes σ σ1 (Look (Word.Backed low)) a
     → Makes σ1 σ2 (Look (Word.Backed high)) b → LooksBacked low high σ σ2 bare
@@ -685,5 +664,5 @@ looks_both low high a b bare zero is first second = record {
   adds = search (arith, adds_step, adds_none);
   kinds = (refl, (refl, tt));
   few = omega arith;
-  outcome = two_reads low high a b zero bare is;
+  outcome = search (arith, eqb-true, true≢false, eq-eqb);
 }

@@ -2,9 +2,8 @@
 use Rattle.pas_steps.proofs.{SpareRoom.Spares, Called.{call_then, next_call}, Apart.{only_both, only_within}, Parts.{part_of_own, part_of_others}}
 use Rattle.pas_steps.proofs.{Calls.{leads_then, leads_idly, does_then, leads_as}, Past.{always_map, once_later, once_map, since_once, always_both}}
 use Rattle.pas_steps.{proofs.Adding.{Tells, adds_call, agreed_later, legal_after, triples_append, adds_under}, specs.Calls.{Leads, Calls, nothing, Does}}
-use Rattle.pas_steps.specs.{Desks.{Seat, Standing, CanCall, triples, AnyView}, Kinds.{looking, kind_of, is_in, Only, lending}, Frames.{IsScan, OnlyScans}}
-use Rattle.pas_steps.specs.{Views.{View, holds, has_right}, Past.Always, Agreement.Agreed, Lists.{Whole, part, Legal}, Evidence.KeptHere}
-use Rattle.pas_steps.specs.declared.step.{Step.Step, Made.Made}
+use Rattle.pas_steps.specs.{Desks.{Seat, Standing, CanCall, triples}, Kinds.{looking, kind_of, is_in, Only, lending}, Frames.{IsScan, OnlyScans}, Views.View}
+use Rattle.pas_steps.specs.{Views.{holds, has_right}, Past.Always, Agreement.Agreed, Lists.{Whole, part, Legal}, Evidence.KeptHere, declared.step.Made.Made}
 use Rattle.std.proofs.Common.{◌≡◌, ℕ, ◌+◌, ◌*◌, ◌≤◌, true, List, ◌++◌, length-append, Option, Some, None, Result, MatchResult, Ok, Err, inl, inr, refl, ap, sym}
 use Rattle.std.proofs.Common.{◌∙◌, subst, arith, append_assoc, Bool, false, [], append-nil, ◌<◌, ◌⊎◌}
 use Rattle.pas_profile.specs.declared.{directory.Directory.Directory, event.NoRoom.{NoRoom, TheVariants.Held}, name.Block.Block, profile.Profile.Profile}
@@ -98,8 +97,7 @@ module _ (f : Profile) (k : ℕ) (l : Whole) (d : Directory) (n : ℕ) (valid : 
   scan_reason : (searched after : List Made) (why : NoRoom) → Legal f (triples k (after ++ searched) ++ l) → LooksAlone f d searched
       → IsRefusedLarge f d n searched after why → IsTrueReason f d (triples k (after ++ searched) ++ l) why
   scan_reason searched after why legal looked is =
-      let only = only_both looking after searched (scans_only after is.scans) (looked k l (legal_earlier f k after searched l legal) met) in
-      true_reason f k l d (after ++ searched) valid of legal met only (λ p here. once_later _ after searched (is.found.vain.deeds p here)) why is.reason
+      search (arith, only_both, scans_only, legal_earlier, true_reason, once_later, is.found.vain.deeds)
 
   -- It is told, where its reason is.
   scan_told : (got after : List Made) (answer : Result Block NoRoom) → Legal f (triples k (after ++ got) ++ l) → Only finding got → Always ReturnsDuly got
@@ -113,12 +111,7 @@ module _ (f : Profile) (k : ℕ) (l : Whole) (d : Directory) (n : ℕ) (valid : 
       let scans = scans_only after is.scans in
       let lends = always_both (λ m before. is_in lending (kind_of m.step) ≡ false) (λ m before. is_in lending (kind_of m.step) ≡ false) after got
       (λ m before h. h) (lends_none looking refl after scans) lone.lends_none in
-      let none = none_alone f k l d n of.kind met got lone is.found in (
-        none,
-        none_after f k l d n of.kind met (after ++ got)
-            (record { legal = legal; lends_none = lends; returns = duly_both after got (duly_none looking after refl refl scans) due }) none,
-        reason why refl,
-      )
+      let none = none_alone f k l d n of.kind met got lone is.found in search (arith, none_after, lends_none, duly_both, duly_none)
 
 -- A scan that found a run, which was then given, allocates a large block by scan.
 pub allocates : {σ σ1 σ2 : Standing} (heap n first : ℕ) (tells : Bool) (find : Finds (large_directory heap) n tells σ σ1 (Some first)) (block : Block)

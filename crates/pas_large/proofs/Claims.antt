@@ -15,10 +15,9 @@ use Rattle.pas_large.specs.Pages.{of_pages, GotPages, MayClaim, DeedsOn, OnlyDee
 use Rattle.pas_large.specs.Claims.{in_span, MayClaimPages, HasRunRoom, AloneFrom, DeedsIn, HoldsSpan, FailsAt, ClaimsPages, HasPages, Releases, ClaimsRun}
 use Rattle.pas_large.specs.{Claims.{LacksAll, StaysPut}, Evidence.{LostHere, BrokenHere, TakenWholeHere, DeedsBelow, MissedHere, GotOf, LeftOrBroken}}
 use Rattle.pas_large.{specs.declared.claiming.Claimed.Claimed, proofs.Pages.{DeedsFrom, from_on, rise_later, rise_both, Orderly, below_both, below_wider}}
-use Rattle.pas_large.proofs.{Pages.{MadeHere, since_more, undone, no_deeds, knew_before, shows_both, shows_taking, after_more}, Left.{parks_both, deeds_both}}
-use Rattle.pas_large.proofs.Left.{OffPage, off_on, off_parks, off_deeds, left_of_alone, left_off, got_off, left_before, got_before, missed_before, left_hints}
-use Rattle.pas_large.proofs.Left.{released}
-use Rattle.pas_search.{specs.Kinds.ReturnsDuly, proofs.PagesThatServe.{duly_both, duly_in, return_page}}
+use Rattle.pas_large.proofs.{Pages.{since_more, undone, no_deeds, knew_before, shows_both, shows_taking, after_more}, Left.{parks_both, deeds_both, OffPage}}
+use Rattle.pas_large.proofs.Left.{off_on, off_parks, off_deeds, left_of_alone, left_off, got_off, left_before, got_before, missed_before, left_hints, released}
+use Rattle.pas_search.proofs.PagesThatServe.{duly_both, duly_in, return_page}
 use Rattle.pas_rights.{proofs.{Puts.put_and_leave_due, Orders.on_full}, specs.{Puts.masked, Words.full, PutsBack.{giving_back, taking_grains, GivesDuly}}}
 use Rattle.pas_rights.specs.PutsBack.{MayPutAndLeave, PutsAndLeaves}
 
@@ -75,7 +74,8 @@ steady_on q g ys on ne = always_map (λ m before. IsOnPage q m.step) (StaysHere 
 pub steady_both : (g : ℕ) (ys xs : List Made) → StaysPut g ys → StaysPut g xs → StaysPut g (ys ++ xs)
 steady_both g ys xs = always_both (StaysHere g) (StaysHere g) ys xs (λ m before h. h)
 
-steady_holds : (g : ℕ) (ys xs : List Made) → StaysPut g ys → holds (ys ++ xs) g ≡ holds xs g
+-- A grain that no step moves is held where it was before the steps.
+pub steady_holds : (g : ℕ) (ys xs : List Made) → StaysPut g ys → holds (ys ++ xs) g ≡ holds xs g
 steady_holds g [] xs h = refl
 steady_holds g (y ∷ ys) xs h = ap (λ t. held_after t (holds (ys ++ xs) g)) h.0 ∙ steady_holds g ys xs h.1
 
@@ -302,8 +302,7 @@ module _ {σ σ1 : Standing} {deeds : Bool} {d : Directory} {first page : ℕ} (
     pub broken_turn : BreaksPage deeds σ1.seat.profile d page h.steps → ClaimsPages deeds d first end σ σ2 page
     broken_turn broken =
         let breaks = subst (λ (s : Seat). BreaksPage deeds s.profile d page ys) so_adds.seat_is broken in
-        stopped breaks.still breaks.lacks (λ may before v free usable agreed. inr
-        (after_more (BrokenHere page) ys xs before (breaks.broken (xs ++ before) (below.alone before free page (omega arith))))) breaks.left breaks.missed
+        stopped breaks.still breaks.lacks (λ may before v free usable agreed. search (arith, after_more, breaks.broken, below.alone)) breaks.left breaks.missed
 
     -- it was won
     won_claims : end ≡ page + 1 → WinsPage deeds σ1.seat.profile d page h.steps → ClaimsPages deeds d first end σ σ2 (page + 1)
@@ -368,8 +367,7 @@ call_knowing {σ} {xs = xs} d pages c knows = search (arith, knows_still)
 pub left_none : {σ : Standing} (d : Directory) (first : ℕ) → Releases d first first σ σ
 left_none d first = record {
   steps = [];
-  calls = call_none (λ v met. does_as (of_pages (in_span first first) Lost) (does_none v) (λ g. inl
-      (ap (λ t. if t then Lost else Kept) (sym (span_none first (g / 256))))) (λ q. ap (λ t. if t then Lost else Kept) (sym (span_none first q))) (λ q h. h));
+  calls = call_none (λ v met. search (arith, does_as, does_none, span_none));
   kinds = tt;
   within = tt;
   hints = tt;
@@ -419,12 +417,11 @@ left_more d directory first page low so_far h =
       steps = ys ++ so_far.steps;
       calls = call_then _ (known (page + 1) so_far low (omega arith)) h.calls (leave_may (page + 1) so_far low (omega arith))
           (λ v met a b. does_as (of_pages (in_span first (page + 1)) Lost) (does_then a.0 b)
-          (λ g. inl (both_fates Lost (in_span first page (g / 256)) (masked page full g) (in_span first (page + 1) (g / 256)) refl
-          (ap (λ t. in_span first page (g / 256) || t) (on_full page g) ∙ span_more first page (g / 256) low)))
+          (λ g. search (arith, both_fates, on_full, span_more))
           (λ q. both_fates Lost (in_span first page q) (page == q) (in_span first (page + 1) q) refl (span_more first page q low)) (λ q h. h));
       kinds = only_both giving_back ys so_far.steps h.kinds so_far.kinds;
-      within = always_both _ _ ys _ (λ m before on p is. ap (in_span first (page + 1)) (return_page page p m.step is on) ∙ span_in first (page + 1) page low
-          (omega arith)) h.on (always_map _ _ so_far.steps (λ m before h p is. span_wider first page (page + 1) p (omega arith) (h p is)) so_far.within);
+      within = always_both _ _ ys _ (λ m before on p is. search (arith, return_page, span_in)) h.on
+          (always_map _ _ so_far.steps (λ m before h p is. span_wider first page (page + 1) p (omega arith) (h p is)) so_far.within);
       hints = left_hints page d full h so_far.steps so_far.hints;
       on = always_both _ (OnSpan first (page + 1)) ys so_far.steps (λ m before on. (page, span_in first (page + 1) page low (omega arith), on)) h.on
           (always_map (OnSpan first page) _ so_far.steps (λ m before on. (on.0, span_wider first page (page + 1) on.0 (omega arith) on.1, on.2)) so_far.on);

@@ -13,12 +13,12 @@ use Rattle.pas_profile.specs.Profiles.{IsValid}
 use Rattle.pas_scan.specs.{Runs.{page_looks, HasUnusable, IsFirstRun, HasNoRun, IsInRun, FindsRun}, Usable.{DeedReadHere, UnusableHere, LeftAlone, ReadUsable}}
 use Rattle.pas_scan.proofs.LeftPages.{usable_before, usable_later, unusable_before, left_alone_by, holds_own, deed_before, lacks_by}
 use Rattle.pas_search.{specs.{Kinds.ReturnsDuly, Alone.IsLone}, proofs.PagesThatServe.{duly_both, duly_none}}
-use Rattle.pas_large.specs.{Evidence.{LostHere, BrokenHere, BadHere, HasBad, IsVain, AllUsable, FailsHere, HasFailed, DeedsOf}, Pages.OnceAfter}
-use Rattle.pas_large.specs.{Pages.{OnlyDeedsShow, claiming_old}, Gives.{pages_from, run_block}, Claims.{AloneFrom, DeedsIn, FailsRun, in_span, MayClaimPages}}
-use Rattle.pas_large.specs.{Claims.{HasRunRoom, LacksAll, ClaimsRun, HoldsRun}, Finds.{MayFind, FindRoom, finding, Finds, FoundRun, FoundNone, LooksAlone}}
-use Rattle.pas_large.{specs.{Finds.IsToldFind, Allocates.{GaveLarge, IsAllocatedLarge, IsRefusedLarge, IsServedNamed, IsScanned}}, proofs.Claims.orderly_claim}
-use Rattle.pas_large.proofs.{Claims.{room_after, got_after}, Told.{never_fails, lowest_alone, none_alone}, Left.{parks_both, deeds_both, only_backs, backs_few}}
-use Rattle.pas_large.proofs.{Left.only_leaves, Pages.{Orderly, orderly_later, orderly_wider, known_of, shows_both}}
+use Rattle.pas_large.specs.{Evidence.{LostHere, BrokenHere, BadHere, HasBad, IsVain, AllUsable, FailsHere, HasFailed, DeedsOf}, Pages.OnlyDeedsShow}
+use Rattle.pas_large.specs.{Pages.claiming_old, Gives.{pages_from, run_block}, Claims.{AloneFrom, DeedsIn, FailsRun, in_span, MayClaimPages, HasRunRoom}}
+use Rattle.pas_large.specs.{Claims.{LacksAll, ClaimsRun, HoldsRun}, Finds.{MayFind, FindRoom, finding, Finds, FoundRun, FoundNone, LooksAlone, IsToldFind}}
+use Rattle.pas_large.{specs.Allocates.{GaveLarge, IsAllocatedLarge, IsRefusedLarge, IsServedNamed, IsScanned}, proofs.Claims.{orderly_claim, room_after}}
+use Rattle.pas_large.proofs.{Claims.got_after, Told.{never_fails, lowest_alone, none_alone}, Left.{parks_both, deeds_both, only_backs, backs_few, only_leaves}}
+use Rattle.pas_large.proofs.Pages.{Orderly, orderly_later, orderly_wider, known_of, shows_both}
 use Rattle.pas_core.proofs.{Nexts.agreed_steps, OneActor.{lends_none, legal_earlier}}
 use Rattle.pas_rights.specs.Gives.{give_steps}
 
@@ -47,12 +47,7 @@ pub alone_later : (ks : Kinds) (p : ℕ) (ys xs : List Made) → apart ks righti
     → LeftAlone p (ys ++ xs)
 alone_later ks p ys xs rights grains only alone =
     let own = left_alone_by ks rights grains p ys only in
-    record {
-      right = right_own p ys xs alone.right ∙ own.right;
-      none = λ g at. holds_own g ys xs (alone.none g at) ∙ own.none g at;
-      parks = parks_both p ys xs own.parks alone.parks;
-      deeds = deeds_both p ys xs own.deeds alone.deeds;
-    }
+    search (arith, right_own, holds_own, parks_both, deeds_both, alone.none, own.none)
 
 -- So do looks at pages.
 pub alone_looks : (p : ℕ) (ys xs : List Made) → Only page_looks ys → LeftAlone p xs → LeftAlone p (ys ++ xs)
@@ -61,11 +56,6 @@ alone_looks p ys xs = alone_later page_looks p ys xs refl refl
 -- a page at which a claim failed was lost or broken
 abbrev pub LostAfter : List Made → Directory → ℕ → Made → List Made → Type 0
 LostAfter xs d page m b = LostHere d page m (b ++ xs) ⊎ BrokenHere page m (b ++ xs)
-
--- Where it was lost once or broken once, it was one of both.
-lost_after : (xs : List Made) (d : Directory) (page : ℕ) (zs : List Made) → OnceAfter xs (LostHere d page) zs ⊎ OnceAfter xs (BrokenHere page) zs
-    → Once (LostAfter xs d page) zs
-lost_after xs d page zs lost = search (arith, once_map)
 
 -- the search found no run
 vain_ends : (f : Profile) (d : Directory) (n from next : ℕ) (ys xs : List Made) → 1 ≤ from → VainSoFar d n from next xs → HasNoRun f d from next n ys
@@ -106,7 +96,7 @@ module _ {f : Profile} {d : Directory} {n from next first : ℕ} {ys xs : List M
   module _ (page : ℕ) (zs : List Made) (fails : FailsRun true f d first (first + n) page zs) (v : View) (agreed : Agreed f v (zs ++ (ys ++ xs))) where
     -- The claim failed at a page that was lost or broken.
     failed : Once (LostAfter before d page) zs
-    failed = lost_after before d page zs (fails.failed refl before v first_alone (all_usable page (fails.in_run.0, fails.in_run.1)) agreed)
+    failed = search (arith, once_map, (fails.failed refl before v first_alone (all_usable page (fails.in_run.0, fails.in_run.1)) agreed))
 
     vain_goes_on : VainSoFar d n (page + 1) (first + n) (zs ++ (ys ++ xs))
     vain_goes_on = record {
@@ -247,8 +237,7 @@ module _ {σ σ1 : Standing} {d : Directory} {n from next : ℕ} (so_far : Searc
       let outcome : FoundNone f d n steps = record {
         still = look_still find;
         vain = vain_ends f d n from next find.steps xs low so_far.vain (subst (λ x. HasNoRun x d from next n find.steps) (same find) find.outcome);
-        deeds = deeds_later page_looks d n (λ s. HasFailed d n s xs) (λ s. HasFailed d n s (find.steps ++ xs)) find.steps xs
-            (λ s h. once_later _ find.steps xs h) refl find.kinds so_far.deeds;
+        deeds = search (arith, deeds_later, once_later);
         rise = (look_orderly find).rise;
         lacks = look_lacks find;
       } in

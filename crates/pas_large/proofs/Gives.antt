@@ -3,7 +3,7 @@ use Rattle.std.proofs.Common.{◌≡◌, ℕ, zero, ◌+◌, ◌-◌, ◌*◌, �
 use Rattle.std.proofs.{Common.{subst, arith, length-append, true≢false, ◌^◌, eq-eqb}, lemmas.Bool.{cases_eq, and_from}}
 use Rattle.pas_profile.specs.{Profiles.{IsPage, IsDirectoryOf}, Blocks.{grain_of, length_of}, declared.{directory.Directory.Directory, profile.Profile.Profile}}
 use Rattle.pas_profile.{specs.declared.name.Block.Block, proofs.Codecs.deed_word_of-positive}
-use Rattle.pas_rights.{specs.{Leaves.{MayLeave, Leaves, LeaveSteps}, Gives.{MayGive, block_of, give_steps, GivesRun as GivesBlock}}, proofs.Gives.bears_by}
+use Rattle.pas_rights.{specs.{Leaves.{MayLeave, Leaves, LeaveSteps}, Gives.{MayGive, give_steps, GivesRun as GivesBlock}}, proofs.Gives.bears_by}
 use Rattle.pas_steps.specs.{Agreement.Agrees, Allowed.Allowed, Events.{events_by, event_of}, InTurn.InTurn, Calls.{Calls, Kept, Lost, Does, ClearAfter}}
 use Rattle.pas_steps.specs.{Desks.{Standing, CanCall, CanMake, Makes, made}, Kinds.{Backing, Only, Giving, LookLife}, Views.{View, holds, holds_on}}
 use Rattle.pas_steps.{specs.{Views.{knows_backed, KnowsDeed, epoch_of}, declared.step.{Made.Made, Step.TheVariants.Back}}, proofs.Apart.deeds_same}

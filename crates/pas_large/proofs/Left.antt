@@ -1,18 +1,17 @@
 -- What a claim without a deed gets of a page, and what is left of it: the page is as it was for the steps of the call, or it was broken.
-use Rattle.std.proofs.Common.{◌≡◌, ◌≢◌, ℕ, zero, suc, ◌+◌, ◌*◌, ◌/◌, ◌%◌, ◌<◌, ◌==◌, Bool, true, false, ◌||◌, MatchBool, List, [], ◌∷◌, ◌++◌, ◌⊎◌, inl, inr}
-use Rattle.std.proofs.Common.{slice_index, refl, ap, sym, ◌∙◌, subst, arith, append_assoc, true≢false, eq-eqb, ◌≤◌, length, length-append}
-use Rattle.std.proofs.lemmas.Bool.{and_from, cases_Bool, cases_eq, cond_both}
+use Rattle.std.proofs.Common.{◌≡◌, ◌≢◌, ℕ, zero, suc, ◌+◌, ◌*◌, ◌/◌, ◌%◌, ◌<◌, Bool, true, false, ◌||◌, MatchBool, List, [], ◌∷◌, ◌++◌, ◌⊎◌, inl, inr, refl, ap}
+use Rattle.std.proofs.{Common.{sym, ◌∙◌, subst, arith, append_assoc, true≢false, eq-eqb, ◌≤◌, length, length-append}, lemmas.Bool.{cases_Bool, cases_eq}}
+use Rattle.std.proofs.lemmas.Bool.{cond_both}
 use Rattle.pas_bits.{specs.{declared.mask.Mask4.Mask4, Masks.is_set, Bits.has_bit}, proofs.Words.at_word}
 use Rattle.pas_profile.specs.{Directories.IsDirectory, declared.directory.Directory.Directory}
-use Rattle.pas_rights.specs.{Leaves.{EndsLeave, LeaveSteps}, Puts.{masked, WordPut, PutsBelow}, PutsBack.{giving_back, GivesDuly, PutsAndLeaves}, Words.words}
-use Rattle.pas_rights.specs.{Words.full, Looks.{looks, HasUsable, HasNoUsable, HintsEmpty, HintsWhere, ReadsBacked, ReadsAllFree, TakesNone}}
-use Rattle.pas_rights.proofs.{Puts.{leave_due, in_word, puts_kinds}, Orders.{leave_returns, looks_only, looks_read, none_used, on_full}}
-use Rattle.pas_steps.specs.{Desks.{Standing, made}, Effects.in_mask, Past.{Once, Always}, InTurn.InTurn, Evidence.{Readings, OneHere, ShowsHere, KeptHere}}
-use Rattle.pas_steps.specs.{Evidence.GetsHere, Frames.{IsOnPage, OnlyOn, GivesUp, KeepsRight}, Kinds.{Kinds, LookFree, Deeding, Taking, Giving, Ending}}
-use Rattle.pas_steps.specs.{Kinds.{Putting, Parking, kind_of, is_in, Only, returning, Backing}, Views.{View, grain_move, held_after, holds, has_right}}
-use Rattle.pas_steps.{specs.declared.step.{Made.Made, Step.{Step, TheVariants.{Deed, Park, Back}}}, proofs.Apart.{holds_over, holds_same, rights_same}}
-use Rattle.pas_steps.proofs.{Calls.returns_are, Frames.{right_own, right_on, holds_on_page}, Past.{always_both, always_map, once_earlier, once_later}}
-use Rattle.pas_steps.proofs.Past.{in_turn_always}
+use Rattle.pas_rights.specs.{Leaves.{EndsLeave, LeaveSteps}, Puts.{masked, PutsBelow}, PutsBack.{giving_back, GivesDuly, PutsAndLeaves}, Words.{words, full}}
+use Rattle.pas_rights.{specs.Looks.{looks, HasUsable, HasNoUsable, HintsEmpty, ReadsBacked, ReadsAllFree, TakesNone}, proofs.Puts.{leave_due, puts_kinds}}
+use Rattle.pas_rights.proofs.Orders.{leave_returns, looks_only, looks_read, none_used, on_full}
+use Rattle.pas_steps.specs.{Desks.{Standing, made}, Past.{Once, Always}, InTurn.InTurn, Evidence.{OneHere, ShowsHere, KeptHere, GetsHere}, Frames.IsOnPage}
+use Rattle.pas_steps.specs.{Frames.{OnlyOn, GivesUp, KeepsRight}, Kinds.{Kinds, LookFree, Deeding, Taking, Giving, Ending, Putting, Parking, kind_of, is_in}}
+use Rattle.pas_steps.specs.{Kinds.{Only, returning, Backing}, Views.{View, holds, has_right}, declared.step.{Made.Made, Step.TheVariants.{Park, Back}}}
+use Rattle.pas_steps.proofs.{Apart.{holds_over, holds_same, rights_same}, Calls.returns_are, Frames.{right_own, right_on, holds_on_page}, Past.always_both}
+use Rattle.pas_steps.proofs.Past.{always_map, once_earlier, once_later, in_turn_always}
 use Rattle.pas_scan.{specs.Usable.{OfHere, ParksNotHere, IsFresh, MakesNoDeedHere, LeftAlone}, proofs.LeftPages.{holds_own, since_earlier}}
 use Rattle.pas_large.specs.{Evidence.{BrokenHere, MissedHere, GotOf, LeftOrBroken}, Pages.OnceAfter, Gives.{BackStep, pages_from}}
 
@@ -199,12 +198,6 @@ module _ (page : ℕ) (d : Directory) (is : IsDirectory d) (free : Mask4) (xs : 
       → Always (ParksNotHere page) (after ++ first) ⊎ Once BrokenAfter (after ++ first)
   end_parks usable all_free after has h = search (arith, parks_both, parks_none, looks_only, once_later, park_breaks)
 
-leave_parks : (page : ℕ) (d : Directory) (is : IsDirectory d) (xs steps : List Made) → has_right xs page ≡ true → Once (GetsHere page) xs
-    → ((g : ℕ) → g / 256 ≡ page → holds xs g ≡ false) → LeaveSteps page d steps
-    → Always (ParksNotHere page) steps ⊎ OnceAfter xs (BrokenHere page) steps
-leave_parks page d is xs steps right got none h = subst (λ s. Always (ParksNotHere page) s ⊎ OnceAfter xs (BrokenHere page) s) (sym h.steps_are)
-    (end_parks page d is h.free xs right got none h.usable h.all_free h.after h.usable_is h.ends)
-
 -- A page that was got and then put back and left is as it was, or it was broken.
 pub released : {σ σ1 : Standing} (page : ℕ) (d : Directory) → IsDirectory d → (before : List Made) → GotOf d page before → (h : PutsAndLeaves page d full σ σ1)
     → LeftOrBroken d page ((h.after ++ h.puts) ++ before)
@@ -214,11 +207,14 @@ released page d is before got h =
     let putting = puts_kinds page full 4 h.puts h.put_order in
     let gone : (g : ℕ) → g / 256 ≡ page → holds ws g ≡ false = λ g at. below_gone page full g _ (on_full page g ∙ eq-eqb page _ (sym at)) 4 h.puts h.put_order (omega arith) in
     let right : has_right ws page ≡ true = rights_same (Putting ∷ []) refl page h.puts before putting ∙ got.right in
+    let leave = h.order in let left = subst (λ s. Always (ParksNotHere page) s ⊎ OnceAfter ws (BrokenHere page) s) (sym leave.steps_are)
+    (end_parks page d is leave.free ws right (once_later (GetsHere page) h.puts before got.got) gone leave.usable leave.all_free leave.after
+    leave.usable_is leave.ends) in
     record {
       right = h.lacks before;
       none = λ g at. nothing_held page d full h before g (λ other. absurd (true≢false (sym (on_full page g ∙ eq-eqb page (g / 256) (sym at)) ∙ other)));
       deeds = deeds_both page all before (deeds_none giving_back page all refl h.kinds) got.deeds;
-      parks = elim (leave_parks page d is ws h.after right (once_later (GetsHere page) h.puts before got.got) gone h.order) [
+      parks = elim left [
         | inl parks ↦ inl (parks_both page all before (parks_both page h.after h.puts parks (parks_none (Putting ∷ []) page h.puts refl putting)) got.parks)
         | inr broken ↦ inr (
           once_later (OfHere d page) all before got.of,
@@ -240,20 +236,13 @@ BacksIn first end = Always (λ m before. (page : ℕ) → m.step ≡ Back page �
 pub backs_in : (first n : ℕ) (steps : List Made) → InTurn BackStep (pages_from first n) steps → BacksIn first (first + n) steps
 backs_in first zero steps h = subst (BacksIn first (first + zero)) (sym h) tt
 backs_in first (suc n) steps h =
-    subst (BacksIn first (first + suc n)) (sym (h.4 ∙ ap (λ piece. piece ++ h.1) h.2.1)) (
-      (λ page e. let same : first + n ≡ page = cc in (omega (arith, same), omega (arith, same))),
-      always_map (λ m before. (page : ℕ) → m.step ≡ Back page → (first ≤ page) × (page < first + n)) _ h.1
-          (λ m before its page e. let at = its page e in (at.0, omega (arith, at.1))) (backs_in first n h.1 h.3),
-    )
+    search (arith, always_map, (backs_in first n h.1 h.3))
 
 -- Backs of the pages of a run in turn are at most one step a page.
 pub backs_few : (first n : ℕ) (steps : List Made) → InTurn BackStep (pages_from first n) steps → length steps ≤ n
 backs_few first zero steps h = let none : length steps ≡ 0 = ap length h in omega (arith, none)
 backs_few first (suc n) steps h =
-    let one : length h.0 ≡ 1 = ap length h.2.1 in
-    let rest : length h.1 ≤ n = backs_few first n h.1 h.3 in
-    let all : length steps ≡ length h.0 + length h.1 = ap length h.4 ∙ length-append h.0 h.1 in
-    omega (arith, one, rest, all)
+    search (arith, length-append, (backs_few first n h.1 h.3))
 
 -- ---- a leave of each page
 pub only_leaves : (d : Directory) (pages : List ℕ) (steps : List Made) → InTurn (λ page piece. LeaveSteps page d piece) pages steps → Only returning steps

@@ -2,16 +2,14 @@
 use Rattle.std.proofs.Common.{arith, ◌≡◌, ℕ, ◌+◌, ◌<◌, ◌⊎◌, ◌||◌, List, [], ◌∷◌, ◌++◌, inl, inr, true, refl, ap, sym, ◌∙◌, append_assoc, true≢false}
 use Rattle.pas_bits.specs.Bits.{has_bit}
 use Rattle.pas_profile.{specs.declared.{directory.Directory.Directory, profile.Profile.Profile}, proofs.Codecs.deed_word_of-positive}
-use Rattle.pas_steps.specs.{Agreement.Agreed, Calls.{Leads, nothing, Does}, Evidence.{OneHere, NoDeedHere, KeptHere}, Kinds.{Only, kind_of, is_in}, Past.Once}
-use Rattle.pas_steps.{specs.{Past.{Always, Since}, Views.{View, KnowsDeed}, declared.step.Made.Made}, proofs.Adding.{agreed_first, agreed_later}}
-use Rattle.pas_steps.proofs.{Calls.{does_then, still_clear}, Frames.right_own, Evidence.unknown, Past.{once_later, once_earlier, once_map, always_both}}
-use Rattle.pas_steps.proofs.Past.{always_map}
-use Rattle.pas_scan.{specs.Usable.{OfHere, WholeHere, ReadUsable, ParksNotHere, IsFresh, MakesNoDeedHere, LeftAlone}, proofs.LeftPages.since_earlier}
-use Rattle.pas_scan.proofs.LeftPages.{unusable_here, deed_before}
-use Rattle.pas_large.specs.Evidence.{LostHere, BrokenHere, BadHere, HasBad, IsVain, AllUsable, FailsHere, HasFailed, DeedsOf, DeedsRise, TakenWholeHere}
-use Rattle.pas_large.specs.{Evidence.{IsTakenRun, LeftOrBroken}, Claims.in_span, Finds.{MayFind, FoundRun, FoundNone}, Pages.claiming_old}
-use Rattle.pas_large.proofs.{Claims.got_after, Finds.DeedOf, Left.{right_at, held_at, kept_at, broken_at}, Pages.{known_of, knew_before, from_first, rise_none}}
-use Rattle.pas_large.proofs.Pages.{rise_both, below_none}
+use Rattle.pas_steps.specs.{Agreement.Agreed, Calls.{Leads, nothing, Does}, Evidence.{OneHere, NoDeedHere}, Kinds.{Only, kind_of, is_in}, Past.{Once, Always}}
+use Rattle.pas_steps.{specs.{Past.Since, Views.{View, KnowsDeed}, declared.step.Made.Made}, proofs.{Adding.{agreed_first, agreed_later}, Calls.does_then}}
+use Rattle.pas_steps.proofs.{Calls.still_clear, Frames.right_own, Evidence.unknown, Past.{once_later, once_earlier, once_map, always_both, always_map}}
+use Rattle.pas_scan.{specs.Usable.{OfHere, WholeHere, ReadUsable, ParksNotHere, IsFresh}, proofs.LeftPages.{since_earlier, unusable_here, deed_before}}
+use Rattle.pas_large.specs.Evidence.{LostHere, BrokenHere, BadHere, HasBad, IsVain, AllUsable, FailsHere, HasFailed, DeedsOf, DeedsRise, IsTakenRun}
+use Rattle.pas_large.{specs.{Evidence.LeftOrBroken, Claims.in_span, Finds.{MayFind, FoundRun, FoundNone}, Pages.claiming_old}, proofs.Claims.got_after}
+use Rattle.pas_large.proofs.{Finds.DeedOf, Left.{right_at, held_at, kept_at, broken_at}, Pages.{known_of, knew_before, from_first, rise_none, rise_both}}
+use Rattle.pas_large.proofs.Pages.{below_none}
 
 -- ---- one page
 module _ (d : Directory) (p : ℕ) (xs : List Made) (left : LeftOrBroken d p xs) where

@@ -10,19 +10,19 @@ use Rattle.pas_rights.{specs.PutsBack.{taking_grains, GivesDuly, MayPutAndLeave,
 use Rattle.pas_rights.proofs.{Puts.{takes_only, takes_on, takes_keep, takes_few, takes_right, takes_leave, takes_got, takes_read}, Orders.{full_set, full_word}}
 use Rattle.pas_rights.proofs.Orders.{keeps_by}
 use Rattle.pas_steps.specs.{Calls.{Calls, Kept, Lost, later, Does, ClearAfter, Gained, now, Fate, nothing}, Desks.{Standing, CanCall, AnyView, Makes, Adds}}
-use Rattle.pas_steps.specs.{Desks.made, Frames.{IsOnPage, KeepsRight, IsRead, GivesUp}, Kinds.{Putting, Taking, kind_of, is_in, Kinds, LookDeed, Deeding, Only}}
-use Rattle.pas_steps.specs.{Kinds.{apart, showing, within}, Views.{View, has_right, holds, KnowsDeed, Way, Rests, ByDeed, FromOffer, had_after, deed_after}}
-use Rattle.pas_steps.specs.{Views.known_deed, Evidence.{GetsHere, ShowsHere, KeptHere, ReadsDeed, GetsRight, NoDeedHere}, Past.{Once, Since, Always}}
-use Rattle.pas_steps.specs.{Agreement.Agreed, Events.{with_event, events_by}, declared.step.{Made.Made, Step.{Step, TheVariants.{Look, Deed, TakeRight}}}}
-use Rattle.pas_steps.proofs.{Apart.{unstamped_same, only_both, only_within, no_events, holds_same}, Called.{call_as, call_then, next_call, call_knows}}
-use Rattle.pas_steps.proofs.Calls.{does_as, does_then, kept_first, does_on_page, leads_as, leads_at, leads_idly, owes_over, unexamined_over}
-use Rattle.pas_steps.proofs.{Frames.{looks_read, right_reads, deed_stays, knows_still, rights_stay, events_append}, Past.{always_both, always_pair, once_later}}
-use Rattle.pas_steps.proofs.{Past.{once_earlier, always_map, once_map}, Unknown.{unknown_no_more, unknown_less}, Evidence.deed_known, Adding.adds_none}
-use Rattle.pas_steps.proofs.Adding.{adds_step, adds_call, adds_under, agreed_first, agreed_later}
-use Rattle.pas_large.specs.Pages.{OnceAfter, TookPage, TakesPage, getting, DeedsOn, OnlyDeedsShow, GetsPage, MayClaim, of_pages, GotPages, getting_old}
-use Rattle.pas_large.specs.{Pages.{claiming, claiming_old, IsClaimed, ClaimsPage, GetsRightOf, LosesRightOf}, Evidence.{BrokenHere, TakenWholeHere}}
-use Rattle.pas_large.{specs.{Evidence.{LostRightHere, LostHere, DeedsBelow, DeedsRise, MissedHere}, declared.claiming.Claimed.Claimed}, proofs.Left.deeds_none}
-use Rattle.pas_large.proofs.Left.{deeds_both, parks_none, parks_kept, parks_both, nothing_held}
+use Rattle.pas_steps.specs.{Desks.made, Frames.{IsOnPage, KeepsRight}, Kinds.{Putting, Taking, kind_of, is_in, Kinds, LookDeed, Deeding, Only, apart, showing}}
+use Rattle.pas_steps.specs.{Kinds.within, Views.{View, has_right, holds, KnowsDeed, deed_after, known_deed}, Evidence.{GetsHere, ShowsHere, KeptHere}}
+use Rattle.pas_steps.specs.{Evidence.{ReadsDeed, GetsRight}, Past.{Once, Since, Always}, Agreement.Agreed, Events.{with_event, events_by}}
+use Rattle.pas_steps.{specs.declared.step.{Made.Made, Step.{Step, TheVariants.{Look, Deed, TakeRight}}}, proofs.Apart.{unstamped_same, only_both, only_within}}
+use Rattle.pas_steps.proofs.{Apart.{no_events, holds_same}, Called.{call_as, call_then, next_call, call_knows}, Calls.{does_as, does_then, kept_first}}
+use Rattle.pas_steps.proofs.{Calls.{does_on_page, leads_as, leads_at, leads_idly, owes_over, unexamined_over}, Frames.{looks_read, right_reads, deed_stays}}
+use Rattle.pas_steps.proofs.{Frames.{knows_still, rights_stay, events_append}, Past.{always_both, always_pair, once_later, once_earlier, always_map, once_map}}
+use Rattle.pas_steps.proofs.{Unknown.{unknown_no_more, unknown_less}, Evidence.deed_known, Adding.{adds_none, adds_step, adds_call, adds_under, agreed_first}}
+use Rattle.pas_steps.proofs.Adding.{agreed_later}
+use Rattle.pas_large.specs.Pages.{OnceAfter, TookPage, TakesPage, getting, DeedsOn, OnlyDeedsShow, GetsPage, MayClaim, getting_old, claiming, claiming_old}
+use Rattle.pas_large.specs.{Pages.{IsClaimed, ClaimsPage, GetsRightOf, LosesRightOf}, Evidence.{BrokenHere, TakenWholeHere, LostRightHere, LostHere}}
+use Rattle.pas_large.{specs.{Evidence.{DeedsBelow, DeedsRise, MissedHere}, declared.claiming.Claimed.Claimed}, proofs.Left.{deeds_none, deeds_both, parks_none}}
+use Rattle.pas_large.proofs.Left.{parks_kept, parks_both, nothing_held}
 use Rattle.pas_search.{specs.Serving.{MayServe, HoldsNone, GotBefore, right_of}, proofs.PagesThatServe.{duly_none, duly_on}}
 use Rattle.pas_scan.{specs.{Runs.page_looks, Usable.{OfHere, ReadUsable, MakesNoDeedHere, LeftAlone}}, proofs.LeftPages.left_alone_by}
 use Rattle.pas_core.proofs.Deeds.{looked}
@@ -129,8 +129,7 @@ module _ (d : Directory) (page : ℕ) (got : Mask4) {σ σ1 : Standing} (taken :
           readings = is_set taken.answers;
           none = λ all. true≢false (sym (taken.got_is x ∙ and_from (is_set taken.answers x) (is_set full x) (all x clear.within) (full_set x clear.within)) ∙ clear.clear);
           read = λ word lt. let shows = ShowsHere page word (is_set taken.answers) in
-              since_more shows (KeptHere page) _ b (back.puts ++ xs) (λ m c is reads. right_reads page c (back.puts ++ xs) reads ∙ kept) (looks_read b h.1)
-              (since_more shows (KeptHere page) _ back.puts xs (λ m c is keeps. rights_stay c xs page keeps right) puts_keep (ts_read before met word lt));
+              search (arith, since_more, right_reads, looks_read, rights_stay, puts_keep, ts_read);
         }) back.left))
 
     -- of what was taken nothing is held
@@ -177,11 +176,8 @@ module _ {σ σ1 : Standing} (deeds : Bool) (d : Directory) (page a : ℕ) (m : 
       → Does (right_of page r) v (pair ++ v)
   pair_does r v agreed right =
       let kinds : Only getting pair = (kind, (refl, tt)) in
-      let does = does_on_page σ.seat.profile page r Kept getting refl refl pair v kinds (on, (IsOnPage.Looks (Word.Deed page), tt)) agreed right (λ is. record {
-        stamped = unstamped_same getting refl page pair v kinds ∙ is.stamped;
-        owes = owes_over getting refl page pair v kinds is.owes;
-        examined = unexamined_over getting refl page pair v kinds is.examined;
-      }) in
+      let does = does_on_page σ.seat.profile page r Kept getting refl refl pair v kinds (on, (IsOnPage.Looks (Word.Deed page), tt)) agreed right
+      (λ is. search (arith, unstamped_same, owes_over, unexamined_over)) in
       does_as (right_of page r) does (λ x. inl refl) (λ q. refl) (λ q h. subst (λ t. ClearAfter t q v (pair ++ v)) (looked (page == q) Kept) h)
 
   pair_outcome : (got : Bool) → ((v : View) → has_right (pair ++ v) page ≡ now (if got then Gained else Kept) (has_right v page))
@@ -452,12 +448,7 @@ module _ {deeds : Bool} {d : Directory} {page : ℕ} {σ σ1 : Standing} (get : 
               let got = get.outcome.leads.from v met (agreed_later f v zs get.steps agreed) in
               let now = agreed_first f v zs get.steps agreed in
               let took = took.from (get.steps ++ v) got.may now in
-              subst (GotPages (λ q. page == q) d v) (sym (append_assoc zs get.steps v)) (record {
-                does = does_as (of_pages (λ q. page == q) Gained) (does_then got.does took.does) (λ g. inl (kept_first _)) (λ q. refl) (λ q h. h);
-                apart = λ g at. sym (got.does.held g) ∙ took.apart g (eqb-true page (g / 256) at);
-                lacked = λ p at. subst (λ q. has_right v q ≡ false) (eqb-true page p at) (got_lacked v met (agreed_later f v zs get.steps agreed));
-                deeds = λ p at. subst (λ q. KnowsDeed q d (zs ++ (get.steps ++ v))) (eqb-true page p at) (knows_still f d page zs (get.steps ++ v) now got.may.deed);
-              });
+              search (arith, append_assoc, does_as, does_then, took, kept_first, eqb-true, got_lacked, agreed_later, knows_still, got.does.held, took.apart);
         };
         gets = once_later (GetsHere page) takes.steps get.steps (just_before takes).got;
         of = λ none. record {
@@ -476,12 +467,7 @@ module _ {deeds : Bool} {d : Directory} {page : ℕ} {σ σ1 : Standing} (get : 
   claim_broken takes =
       let left = leads_at {R = Does (right_of page Lost)} get.adds.seat_is takes.outcome.leads in
       claims takes Claimed.Broken (record {
-        still = record {
-          from = λ v met agreed.
-              let f = σ.seat.profile in let zs = takes.steps in
-              let got = get.outcome.leads.from v met (agreed_later f v zs get.steps agreed) in
-              rw (append_assoc zs get.steps v) (undone (λ g. false) (λ q. page == q) (λ g e. cc) (λ q e. subst (λ r. has_right v r ≡ false) (eqb-true page q e) (got_lacked v met (agreed_later f v zs get.steps agreed))) got.does (left.from (get.steps ++ v) got.may (agreed_first f v zs get.steps agreed)));
-        };
+        still = search (arith, agreed_later, append_assoc, eqb-true, got_lacked, agreed_first, get.outcome.leads.from, left.from);
         lacks = λ before none. ap (λ s. has_right s page) (append_assoc takes.steps get.steps before) ∙ takes.outcome.lacks (get.steps ++ before);
         left = λ none. record {
           right = takes.outcome.lacks get.steps;

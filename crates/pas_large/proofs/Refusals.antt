@@ -1,17 +1,17 @@
 -- The reason of a refusal: the eligible words, and then the verdict.
 use Rattle.pas_large.{proofs.Pages.since_more, specs.Refusals.{LastOffered, NotReadHere, IsAccounted, AllAccounted, IsReason, MarksOffered, Refuses}}
-use Rattle.std.proofs.Common.{◌≡◌, ◌≢◌, ℕ, ◌+◌, ◌/◌, ◌%◌, ◌<◌, Bool, true, false, List, ◌∷◌, length, inl, inr, refl, ap, sym, ◌∙◌, subst, arith, MatchBool, ◌≤◌}
-use Rattle.std.proofs.{Common.{[], ◌++◌, append_assoc, true≢false, length-append, ◌*◌, get_or-set_same, get_or-set_other}, Math.ListN.{set, get_or}}
+use Rattle.std.proofs.Common.{◌≡◌, ◌≢◌, ℕ, ◌+◌, ◌/◌, ◌%◌, ◌<◌, Bool, true, false, List, ◌∷◌, length, inl, inr, ap, sym, ◌∙◌, subst, arith, MatchBool, ◌≤◌, []}
+use Rattle.std.proofs.{Common.{◌++◌, append_assoc, true≢false, length-append, ◌*◌, get_or-set_same, get_or-set_other}, Math.ListN.{set, get_or}}
 use Rattle.std.proofs.lemmas.Bool.{MatchBool-at_false, cases_lt}
 use Rattle.pas_bits.specs.Bits.{has_bit}
 use Rattle.pas_profile.specs.{Directories.number_of, declared.{directory.Directory.Directory, word.Word.Word, profile.Profile.Profile, event.NoRoom.NoRoom}}
 use Rattle.pas_profile.specs.declared.event.NoRoom.TheVariants.{NoSpace, Held}
-use Rattle.pas_steps.specs.{Past.{Once, Always, Since}, Frames.{OnlyScans, IsScan}, Desks.{made, Seat, Standing}, Kinds.{kind_of, is_in}}
-use Rattle.pas_steps.specs.{declared.step.{Made.Made, Step.{Step, TheVariants.Look}}, Evidence.{ReadsEligible, ZeroHere, OneHere, GetsHere, LeftHere}}
-use Rattle.pas_steps.specs.{Evidence.{ParkedHere, ParkedLater, LacksAfter, MissingHere, HeldHere}, Views.{View, has_right, known_deed, KnowsDeed}}
-use Rattle.pas_steps.proofs.{Adding.{adds_call, agreed_first}, Past.{once_later, once_earlier, always_map}, Frames.right_own, Evidence.zero_before}
-use Rattle.pas_scan.{specs.{Marks.is_marked, Scan.{AllParked, IsVerdict, Judges, judging, last_block}}, proofs.Reading.{scans_lack, right_scans, place_of}}
-use Rattle.pas_scan.proofs.{Reading.scans_append, LeftPages.since_earlier}
+use Rattle.pas_steps.specs.{Past.{Once, Always, Since}, Frames.OnlyScans, Desks.{made, Seat, Standing}, declared.step.{Made.Made, Step.TheVariants.Look}}
+use Rattle.pas_steps.specs.{Evidence.{ReadsEligible, ZeroHere, OneHere, ParkedHere, ParkedLater, LacksAfter, MissingHere, HeldHere}, Views.{View, has_right}}
+use Rattle.pas_steps.{specs.Views.{known_deed, KnowsDeed}, proofs.{Adding.{adds_call, agreed_first}, Past.{once_later, once_earlier, always_map}}}
+use Rattle.pas_steps.proofs.{Frames.right_own, Evidence.zero_before}
+use Rattle.pas_scan.{specs.{Marks.is_marked, Scan.{AllParked, IsVerdict, Judges, last_block}}, proofs.Reading.{scans_lack, right_scans, place_of, scans_append}}
+use Rattle.pas_scan.proofs.LeftPages.{since_earlier}
 
 -- ---- the offered pages are marked: one eligible word more
 -- what is marked below a block, and what was read of it
@@ -25,17 +25,14 @@ other_word d p n j ne r = ne (search (arith, place_of))
 newest : (d : Directory) (p block a : ℕ) (steps : List Made) (t : Bool) → block ≡ p / 64 → OnlyScans steps → has_bit a (p % 64) ≡ t
     → MatchBool t (LastOffered d p (made (Look (Word.Eligible (number_of d) block)) a ∷ steps))
     (Once (ZeroHere d p) (made (Look (Word.Eligible (number_of d) block)) a ∷ steps))
-newest d p block a steps true at scans bit = inl (ReadsEligible.Looks (number_of d) block refl at, bit, scans_lack steps p scans)
-newest d p block a steps false at scans bit = inl (ReadsEligible.Looks (number_of d) block refl at, bit, scans_lack steps p scans)
+newest d p block a steps offered at scans bit = search (arith, scans_lack, ReadsEligible.Looks)
 
 -- After one more eligible word was read, the marks are those of all words so far.
 pub marked_more : (d : Directory) (block a : ℕ) (marks : List ℕ) (steps : List Made) → block < length marks → OnlyScans steps → MarkedBelow d block marks steps
     → MarkedBelow d (block + 1) (set marks block a) (made (Look (Word.Eligible (number_of d) block)) a ∷ steps)
 marked_more d block a marks steps small scans before p lt = elim (cases_lt (p / 64) block) [
   | inl low ↦
-      let same = ap (λ n. has_bit n (p % 64)) (sym (get_or-set_other marks block (p / 64) a 0 (λ e. absurd (omega (arith, e, low))))) in
-      subst (λ t. MatchBool t (LastOffered d p (made (Look (Word.Eligible (number_of d) block)) a ∷ steps)) (Once (ZeroHere d p) (made (Look (Word.Eligible (number_of d) block)) a ∷ steps))) same
-      (search (arith, other_word))
+      search (arith, get_or-set_other, other_word)
   | inr high ↦
       let at : block ≡ p / 64 = omega (arith, lt, high) in
       let here = ap (λ n. has_bit n (p % 64)) (sym (get_or-set_same marks block a 0 small)) ∙ ap (λ i. has_bit (get_or (set marks block a) i 0) (p % 64)) at in
@@ -140,8 +137,7 @@ refuses_by {σ} {σ1} {σ2} d e h marks ed he offers room judges =
 -- ---- a reason, with steps that stood before and have no right any more
 module _ (d : Directory) (xs : List Made) (lacks : (p : ℕ) → has_right xs p ≡ false) where
   accounted_before : (p : ℕ) (ys : List Made) → IsAccounted d p ys → IsAccounted d p (ys ++ xs)
-  accounted_before p ys (inl (inl left)) = inl (inl (once_earlier (LeftHere p) (LeftHere p) ys xs
-      (λ m b h. (h.0, right_own p b xs (lacks p) ∙ h.1, once_earlier (GetsHere p) (GetsHere p) b xs (λ n c x. x) h.2)) left))
+  accounted_before p ys (inl (inl left)) = inl (search (arith, once_earlier, right_own))
   accounted_before p ys (inl (inr later)) = inl (inr (once_earlier (ParkedLater d p) (ParkedLater d p) ys xs (λ m b h. search (arith, right_own, zero_before, once_earlier)) later))
   accounted_before p ys (inr offered) = inr (since_earlier (OneHere d p) _ (OneHere d p) (NotReadHere d p) ys xs (λ m b x. (x.0, x.1, right_own p b xs (lacks p) ∙ x.2)) (λ m b x. x) offered)
 
@@ -156,9 +152,4 @@ module _ (d : Directory) (xs : List Made) (lacks : (p : ℕ) → has_right xs p 
     -- A reason that steps of a refusal show is one behind steps that have no right any more.
     pub reason_before : (why : NoRoom) → IsReason f d ys why → IsReason f d (ys ++ xs) why
     reason_before NoSpace all = all_before (f.pages + 1) all
-    reason_before (Held page) is = record {
-      page_of = is.page_of;
-      of_directory = λ v agreed. subst (KnowsDeed page d) (sym (append_assoc ys xs v)) (is.of_directory (xs ++ v) (agreed_first f v ys xs agreed));
-      held = once_earlier (HeldHere d page) (HeldHere d page) ys xs (held_at page) is.held;
-      lower = all_before page is.lower;
-    }
+    reason_before (Held page) is = search (arith, append_assoc, agreed_first, once_earlier, held_at, all_before, is.of_directory)

@@ -58,11 +58,10 @@ joined_apart low new (s ∷ rest) h above some last =
     let a = h.0 in let b = h.1 in let c = h.2 in
     elim (cases_Bool (nat_lt s.end new.first)) [
       | inl later ↦ subst (AreApart low) (sym (joins_later new s rest later)) (h.0, h.1, h.2, joined_apart s.end new rest h.3 (grind (arith, nat_tests)) some last)
-      | inr meets ↦ elim (cases_Bool (nat_lt new.end s.first)) [
-        | inl before ↦ subst (AreApart low) (sym (joins_before new s rest meets before)) (above, some, last, ((grind (arith, nat_tests)), h.1, h.2, h.3))
-        | inr into ↦ subst (AreApart low) (sym (search arith)) (joined_apart low (hull s new) rest
-            (apart_from s.end low rest (omega (arith, a, b)) h.3) (omega (arith, a, above)) (omega (arith, b, some)) (omega (arith, c, last)))
-      ]
+      | inr meets ↦
+          let wider = joined_apart low (hull s new) rest
+          (apart_from s.end low rest (omega (arith, a, b)) h.3) (omega (arith, a, above)) (omega (arith, b, some)) (omega (arith, c, last)) in
+          search (arith, cases_Bool, joins_before, nat_tests, apart_from, wider)
     ]
 
 hull_has : (s new : Span) (p : ℕ) → s.first < s.end → new.first < new.end → new.first ≤ s.end → s.first ≤ new.end
@@ -76,15 +75,9 @@ joined_has low new [] h some p = or_comm (in_span new p) false
 joined_has low new (s ∷ rest) h some p =
     let b = h.1 in
     elim (cases_Bool (nat_lt s.end new.first)) [
-      | inl later ↦ ap (λ spans. has_page spans p) (joins_later new s rest later)
-          ∙ (ap (λ t. in_span s p || t) (joined_has s.end new rest h.3 some p) ∙ (grind arith))
-      | inr meets ↦ elim (cases_Bool (nat_lt new.end s.first)) [
-        | inl before ↦ ap (λ spans. has_page spans p) (joins_before new s rest meets before) ∙ or_comm (in_span new p) (in_span s p || has_page rest p)
-        | inr into ↦ ap (λ spans. has_page spans p) (search arith)
-            ∙ (joined_has s.end (hull s new) rest h.3 (omega (arith, b, some)) p
-            ∙ (ap (λ t. has_page rest p || t) (hull_has s new p b some (grind (arith, nat_tests)) (grind (arith, nat_tests)))
-            ∙ (grind arith)))
-      ]
+      | inl later ↦ search (arith, joins_later, (joined_has s.end new rest h.3 some p))
+      | inr meets ↦ let wider = joined_has s.end (hull s new) rest h.3 (omega (arith, b, some)) p in
+          search (arith, cases_Bool, joins_before, or_comm, hull_has, nat_tests, wider)
     ]
 
 -- ---- only one list has just these pages
@@ -121,10 +114,7 @@ same_lists_of low (s ∷ xs) (t ∷ ys) h k same =
     let c = end_same low s t xs ys h k first same in let d = end_same low t s ys xs k h (sym first) (λ p. sym (same p)) in
     let end : s.end ≡ t.end = omega (arith, c, d) in
     let rest : (p : ℕ) → has_page xs p ≡ has_page ys p
-    = λ p. elim (cases_lt s.end p) [
-      | inl past ↦ sym (rest_has s xs p past) ∙ (same p ∙ rest_has t ys p (omega (arith, past, end)))
-      | inr within ↦ none_below s.end xs p h.3 within ∙ sym (none_below t.end ys p k.3 (omega (arith, within, end)))
-    ] in
+    = λ p. search (arith, cases_lt, rest_has, none_below) in
     ap (λ r. r ∷ xs) (ap (λ f. record { first = f; end = s.end }) first ∙ ap (λ e. record { first = t.first; end = e }) end) ∙ ap (λ r. t ∷ r) (same_lists_of s.end xs ys h.3 (subst (λ e. AreApart e ys) (sym end) k.3) rest)
 
 -- Ranges that keep apart and have just one range's pages more are those with it joined.
@@ -159,17 +149,11 @@ fit_step low s rest n p h fit =
               | inr later ↦ later
             ];
             before = λ page is. (or_parts (in_span s page) (has_page rest page) (fit.before page is)).1;
-            pages = λ page from to. elim (or_cases (in_span s page) (has_page rest page) (fit.pages page from to)) [
-              | inl here ↦ absurd (true≢false (sym here ∙ span_past s page (omega (arith, past, from))))
-              | inr later ↦ later
-            ];
+            pages = λ page from to. search (arith, or_cases, true≢false, span_past, fit.pages);
           })
         ]
       ]
     ]
-
-fit_here : (low : ℕ) (s : Span) (rest : List Span) (n p : ℕ) → AreApart low (s ∷ rest) → IsPlaceOf p n s → FitsAt (has_page (s ∷ rest)) n p
-fit_here low s rest n p h place = search (arith, or_left, span_in, or_from, nat_tests, none_below)
 
 no_fit : (n p : ℕ) → FitsAt (has_page []) n p → ⊥
 no_fit n p fit = true≢false (sym fit.begins)
@@ -202,14 +186,7 @@ lowest_found : (low : ℕ) (spans : List Span) (n : ℕ) → AreApart low spans 
 lowest_found low [] n h = λ p fit. no_fit n p fit
 lowest_found low (s ∷ rest) n h =
     elim (cases_Bool (nat_le n (s.end - s.first))) [
-      | inl long ↦ let le : n ≤ (s.end - s.first) = grind (arith, nat_tests) in
-          subst (IsFound (s ∷ rest) n) (sym (fits_here n s rest long)) (record {
-            fits = fit_here low s rest n s.first h (record { begins = refl; long = omega (arith, le, h.1) });
-            lowest = λ p lt fit. elim (fit_step low s rest n p h fit) [
-              | inl here ↦ absurd (omega (arith, here.begins, lt))
-              | inr later ↦ let past = above_low s.end rest p h.3 later.begins in absurd (omega (arith, past, h.1, lt))
-            ];
-          })
+      | inl long ↦ search (arith, nat_tests, fits_here, or_left, span_in, or_from, none_below, fit_step, above_low)
       | inr short ↦ subst (IsFound (s ∷ rest) n) (sym (fits_later n s rest short)) (found_later low s rest n h (grind (arith, nat_tests)) (lowest_fit n rest) (lowest_found s.end rest n h.3))
     ]
 
@@ -249,10 +226,6 @@ front_or a r x c is apart = ap (λ t. a || t) is ∙ (grind arith)
 none_left : (n p : ℕ) (s : Span) → s.end ≡ s.first + n → false ≡ (in_span s p && not (in_span (from_to s.first n) p))
 none_left n p s is = grind (arith, nat_tests)
 
-left_has : (low n p : ℕ) (s : Span) (rest : List Span) → AreApart low (s ∷ rest) → s.first + n ≤ s.end
-    → has_page (left_of n s ++ rest) p ≡ ((in_span s p || has_page rest p) && not (in_span (from_to s.first n) p))
-left_has low n p s rest h long = search (arith, above_low, span_past, cases_lt, leaves_some, within_or, nat_tests, leaves_none, none_left)
-
 -- Ranges that were cut have just those first pages fewer.
 pub cut_has : (low first n : ℕ) (spans : List Span) → AreApart low spans → FitsAt (has_page spans) n first
     → HasFewer (from_to first n) (has_page spans) (has_page (cut_at first n spans))
@@ -261,15 +234,9 @@ cut_has low first n (s ∷ rest) h fit p =
     elim (fit_step low s rest n first h fit) [
       | inl here ↦ let is = here.begins in let long = here.long in
           ap (λ l. has_page l p) (cuts_here first n s rest is)
-          ∙ (left_has low n p s rest h long
+          ∙ (search (arith, above_low, span_past, cases_lt, leaves_some, within_or, nat_tests, leaves_none, none_left)
           ∙ ap (λ f. (in_span s p || has_page rest p) && not (in_span (from_to f n) p)) is)
-      | inr later ↦ let past = above_low s.end rest first h.3 later.begins in
-          ap (λ l. has_page l p) (cuts_later first n s rest (λ is. omega (arith, is, past, h.1)))
-          ∙ front_or (in_span s p) (has_page (cut_at first n rest) p) (has_page rest p) (in_span (from_to first n) p) (cut_has s.end first n rest h.3 later p)
-          (λ is. elim (cases_lt p first) [
-            | inl below ↦ grind (arith, nat_tests)
-            | inr above ↦ absurd (true≢false (sym is ∙ span_past s p (omega (arith, past, above))))
-          ])
+      | inr later ↦ search (arith, above_low, cuts_later, front_or, cases_lt, nat_tests, true≢false, span_past, (cut_has s.end first n rest h.3 later p))
     ]
 
 -- ---- the lowest one that has as many
@@ -293,8 +260,7 @@ cut_is_lowest low first n (s ∷ rest) h is =
           cuts_here first n s rest (cc) ∙ sym (ap (λ t. if t then left_of n s ++ rest else s ∷ cut_lowest n rest) long)
       | inr short ↦ let later : lowest_fit n rest ≡ Some first = sym (fits_later n s rest short) ∙ is in
           let past = above_fit s.end rest n first h.3 later in
-          cuts_later _ n s rest (λ same. omega (arith, same, past, b))
-          ∙ (ap (λ l. s ∷ l) (cut_is_lowest _ _ n rest h.3 later) ∙ sym (ap (λ t. if t then left_of n s ++ rest else s ∷ cut_lowest n rest) short))
+          search (arith, cuts_later, (cut_is_lowest _ _ n rest h.3 later))
     ]
 
 -- Where no range is long enough, nothing is cut.
@@ -338,10 +304,6 @@ ends_of : (first : ℕ) (spans : List Span) (i : ℕ) (d : Span) → i < length 
 ends_of first spans i d lt h = subst (EndsFrom first) (drop_more spans i d lt) h
 
 -- ---- ranges that a new one meets
--- the first of them begins behind the end of the one before
-ends_later : (first : ℕ) (s : Span) (rest : List Span) → AreApart 0 (s ∷ rest) → first ≤ s.first → EndsFrom first rest
-ends_later first s rest h le = search arith
-
 -- the range so far has all pages of the new one and of those from the place to here
 pub record Gathers (new whole : Span) (spans : List Span) (place here : ℕ) : Type 0 where
   pub from : place ≤ here
@@ -352,7 +314,7 @@ pub record Gathers (new whole : Span) (spans : List Span) (place here : ℕ) : T
 -- A range that meets what was gathered so far is gathered, too.
 pub gathers_more : (new whole : Span) (spans : List Span) (place here : ℕ) (d : Span) → AreApart 0 spans → here < length spans
     → (get_or spans here d).first ≤ whole.end → Gathers new whole spans place here → Gathers new (hull (get_or spans here d) whole) spans place (here + 1)
-gathers_more new whole spans place here d h lt meets so_far = search (arith, ends_of, drop_more, isnt_lt, ends_later, at_place)
+gathers_more new whole spans place here d h lt meets so_far = search (arith, ends_of, drop_more, isnt_lt, at_place)
 
 -- ---- the lowest one that has as many
 -- ---- the range that begins at a page
@@ -390,9 +352,6 @@ looked first n spans i d h lt is so_far =
     ]
 
 -- ---- the list afterwards
-one_up : (i : ℕ) → suc i ≡ i + 1
-one_up i = omega arith
-
 -- A range that is longer than what is cut of it is left shorter at its place.
 pub shortened : (spans : List Span) (i n : ℕ) (s : Span) (ys : List Span) → ys ≡ spans → i < length spans → n < s.end - s.first
     → refill (length spans) spans (set ys i (record { first = s.first + n; end = s.end })) ≡ take i spans ++ (left_of n s ++ drop (i + 1) spans)
@@ -400,8 +359,7 @@ shortened spans i n s ys same lt some =
     let new : Span = record { first = s.first + n; end = s.end } in
     ap (λ zs. refill (length spans) spans (set zs i new)) same
     ∙ ((items-with_items (record { items = spans }) (set spans i new) (length-set spans i new))
-    ∙ (set_split spans i new lt
-    ∙ (ap (λ k. take i spans ++ new ∷ drop k spans) (one_up i) ∙ ap (λ l. take i spans ++ (l ++ drop (i + 1) spans)) (sym (leaves_some n s some)))))
+    ∙ (search (arith, set_split, leaves_some)))
 
 -- those from a place to here were taken out, one more
 pub without_more : (spans : List Span) (place here : ℕ) → place ≤ here → here < length spans

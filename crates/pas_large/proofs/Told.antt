@@ -1,19 +1,18 @@
 -- ONE ACTOR ALONE in a request for whole pages: a page that it read as usable was so, and one that was so it neither reads as not usable nor loses nor breaks.
 -- So a search finds the lowest usable run, a door's run is got just where it was whole, and the reason of a refusal is true.
-use Rattle.std.proofs.Common.{◌≡◌, ◌≢◌, ℕ, ◌+◌, ◌*◌, ◌/◌, ◌%◌, ◌<◌, ◌==◌, Bool, true, false, if◌then◌else◌, List, [], ◌∷◌, ◌++◌, inl, inr, refl, ap, ◌⊎◌, sym}
-use Rattle.std.proofs.{Common.{◌∙◌, subst, arith, true≢false, eqb-true, eq-eqb, not}, lemmas.Bool.{false≢true, cases_eq, or_left}}
+use Rattle.std.proofs.Common.{◌≡◌, ◌≢◌, ℕ, ◌+◌, ◌*◌, ◌/◌, ◌%◌, ◌<◌, ◌==◌, Bool, true, false, List, [], ◌∷◌, ◌++◌, inl, inr, refl, ap, ◌⊎◌, sym, ◌∙◌, subst}
+use Rattle.std.proofs.{Common.{arith, true≢false, eqb-true, eq-eqb, not}, lemmas.Bool.{false≢true, cases_eq, or_left}}
 use Rattle.pas_bits.specs.Bits.{has_bit}
-use Rattle.pas_profile.specs.{Directories.{deed_word_of, number_of, IsKind}, Layouts.same_word, Profiles.{IsValid, IsPage, IsDirectoryOf}}
-use Rattle.pas_profile.specs.declared.{directory.Directory.Directory, profile.Profile.Profile, word.Word.Word, event.NoRoom.NoRoom}
-use Rattle.pas_profile.proofs.Codecs.{deed_word_of-positive}
-use Rattle.pas_steps.specs.{Effects.{target, new_value, free_word_at}, Past.{Once, Always, Since}, Desks.{triple, triples}, Agreement.Agreed, Allowed.Allowed}
-use Rattle.pas_steps.specs.{Views.{Way, Rests, ToParked, way, has_right, KnowsDeed, known_deed}, Lists.{Whole, part, word_after, Legal}, Kinds.looking}
-use Rattle.pas_steps.specs.{Kinds.{kind_of, is_in, Only}, Evidence.{ReadsEligible, ReadsDeed, OneHere, ZeroHere, ParkedHere, LacksAfter, MissingHere, HeldHere}}
-use Rattle.pas_steps.{specs.declared.step.{Step.{Step, TheVariants.{Deed, TakeRight, Park}}, Made.Made}, proofs.{Frames.right_own, Parts.part_of_own}}
-use Rattle.pas_steps.proofs.{Past.{since_once, once_map}, Apart.rights_same}
+use Rattle.pas_profile.specs.{Directories.{deed_word_of, number_of, IsKind}, Profiles.{IsValid, IsPage, IsDirectoryOf}, declared.directory.Directory.Directory}
+use Rattle.pas_profile.{specs.declared.{profile.Profile.Profile, word.Word.Word, event.NoRoom.NoRoom}, proofs.Codecs.deed_word_of-positive}
+use Rattle.pas_steps.specs.{Effects.{target, free_word_at}, Past.{Once, Always, Since}, Desks.triples, Agreement.Agreed, Allowed.Allowed, Views.way}
+use Rattle.pas_steps.specs.{Views.{has_right, KnowsDeed, known_deed}, Lists.{Whole, part, word_after, Legal}, Kinds.{looking, Only}, Evidence.ReadsEligible}
+use Rattle.pas_steps.specs.{Evidence.{ReadsDeed, OneHere, ZeroHere, ParkedHere, LacksAfter, MissingHere, HeldHere}, declared.step.Step.{Step, TheVariants.Deed}}
+use Rattle.pas_steps.{specs.declared.step.{Step.TheVariants.{TakeRight, Park}, Made.Made}, proofs.{Frames.right_own, Parts.part_of_own, Past.since_once}}
+use Rattle.pas_steps.proofs.{Past.once_map, Apart.rights_same}
 use Rattle.pas_core.{specs.Rights.{eligible_bit, free_of_page}, proofs.{Deeds.{known_is, number_told, deed_kept, looked}, OneActor.{unfit_entry, deed_none}}}
-use Rattle.pas_core.proofs.{OneActor.{deed_later, legal_before, of_page}, Rights.{Spot, With, InParked, is_with, is_offered, is_offered-true, spot_after}}
-use Rattle.pas_core.proofs.{Rights.{spot_of, DeedFits, spotted, no_deed, free_without_deed, offered_has_deed, deeds_known}, Nexts.agreed_steps}
+use Rattle.pas_core.proofs.{OneActor.{deed_later, legal_before, of_page}, Rights.{Spot, With, InParked, is_offered, is_offered-true, spot_after, spot_of}}
+use Rattle.pas_core.proofs.{Rights.{DeedFits, spotted, no_deed, free_without_deed, offered_has_deed, deeds_known}, Nexts.agreed_steps}
 use Rattle.pas_scan.specs.Usable.{OfHere, WholeHere, ReadUsable, ParksNotHere, IsFresh, MakesNoDeedHere, DeedReadHere, OtherDeedHere, NotOfferedHere}
 use Rattle.pas_scan.proofs.LeftPages.{lacks_by}
 use Rattle.pas_search.{specs.{Alone.IsLone, Telling.{IsInHands, IsTrueReason}}, proofs.LoneSteps.{fewer, once_lone, free_same, whole_read, used_never}}
@@ -93,11 +92,7 @@ module _ (f : Profile) (k : ℕ) (l : Whole) (d : Directory) (p : ℕ) (kind : I
   -- A page that was got without a deed made here, and taken whole, was whole before the steps.
   pub got_whole : (xs : List Made) → IsLone f k l xs → GotOf d p xs → ((word : ℕ) → word < 4 → Once (WholeHere p word) xs) → IsWholePage d l p
   got_whole xs lone got words =
-      let now = of_now f k l d p xs lone.legal got.of in
-      let some : word_after l (Word.Deed p) ≢ 0 = (λ none. deed_word_of-positive d (sym now ∙ none_kept f k l p xs lone.legal got.deeds none)) in
-      was_whole (legal_before f k xs l lone.legal) (sym (deed_later k l p xs some) ∙ now)
-      ((was_offered_before f k l p xs lone.legal lone.returns got.deeds).0 got.got)
-      (words_free xs lone words)
+      search (arith, of_now, deed_word_of-positive, none_kept, was_whole, legal_before, deed_later, was_offered_before, words_free)
 
 -- ---- no page of a usable run is lost
 -- where the right of a page may be while one actor alone goes on that doesn't park it: nowhere, offered, or with that actor
@@ -178,20 +173,13 @@ module _ (f : Profile) (k : ℕ) (l : Whole) (d : Directory) (p : ℕ) (kind : I
     deed_is : (xs : List Made) → Legal f (triples k xs ++ l) → DeedsOf d n Chosen xs
         → (word_after (triples k xs ++ l) (Word.Deed p) ≡ 0) ⊎ (word_after (triples k xs ++ l) (Word.Deed p) ≡ deed_word_of d)
     deed_is [] legal made = elim usable [ inl none ↦ inl none | inr whole ↦ inr whole.deed ]
-    deed_is (m ∷ xs) legal made = elim (deed_is xs legal.1 made.1) [
-      | inl still ↦
-          let of : (q : ℕ) (e : Directory) → m.step ≡ Deed q e → m.answer ≡ 0 → e ≡ d = (λ q e same zero. (made.0 q e same zero).0) in
-          search (arith, looked, eq-eqb, eqb-true, of)
-      | inr own ↦ inr (deed_kept (triples k xs ++ l) (triple k m) p (λ none. deed_word_of-positive d (sym own ∙ none)) ∙ own)
-    ]
+    deed_is (m ∷ xs) legal made = search (arith, eq-eqb, eqb-true, deed_kept, deed_word_of-positive, made.0, (deed_is xs legal.1 made.1))
 
     other_never : (m : Made) (xs : List Made) → IsLone f k l (m ∷ xs) → DeedsOf d n Chosen xs → OtherDeedHere d p m xs → ⊥
-    other_never m xs lone made other = let word = deed_told (triples k xs ++ l) p m.step m.answer other.0 lone.legal.0.answer_is in
-        elim (deed_is xs lone.legal.1 made) [ inl none ↦ other.1 (word ∙ none) | inr own ↦ other.2 (word ∙ own) ]
+    other_never m xs lone made other = search (arith, deed_told, deed_is, other.1, other.2)
 
     missing_never : (m : Made) (xs : List Made) → IsLone f k l (m ∷ xs) → NotOfferedHere d p m xs → ⊥
-    missing_never m xs lone h = true≢false (sym (still_offered xs lone.legal.1 h.0.1 h.0.0.2 (of_now f k l d p xs lone.legal.1 h.1))
-        ∙ (sym (eligible_told (triples k xs ++ l) d p m.step m.answer h.0.0.0 lone.legal.0.answer_is) ∙ h.0.0.1))
+    missing_never m xs lone h = true≢false (search (arith, still_offered, of_now, eligible_told))
 
     -- A PAGE THAT WAS USABLE before the search doesn't fail in it.
     bad_never : (xs : List Made) → IsLone f k l xs → DeedsOf d n Chosen xs → Once (BadHere d p) xs → ⊥
@@ -237,11 +225,7 @@ module _ (f : Profile) (k : ℕ) (l : Whole) (d : Directory) (n : ℕ) (kind : I
 
   -- THE RUN that a search found is the lowest one that was usable before it.
   pub lowest_alone : (first : ℕ) (xs : List Made) → IsLone f k l xs → FoundRun f d n xs first → IsLowestRun f d n l first
-  lowest_alone first xs lone found = record {
-    of_region = found.of_region;
-    usable = run_was first xs lone found.taken.usable;
-    lowest = λ other some lt. bad_run (λ r. (r ≡ first) ⊎ HasFailed d n r xs) other xs lone found.deeds (found.lower other some lt);
-  }
+  lowest_alone first xs lone found = search (arith, run_was, bad_run, found.lower)
 
   -- Where it found none, there was none before it.
   pub none_alone : (xs : List Made) → IsLone f k l xs → FoundNone f d n xs → HasNoUsableRun f d n l

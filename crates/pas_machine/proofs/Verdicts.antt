@@ -286,13 +286,7 @@ pub unback_lives : (f : Profile) (pages : List Page) (places : List Place) (cove
     → (k page epoch : ℕ) → IsPage f page → (p : Page) → p ≡ page_in es page → p.backed ≡ true
     → IsSome (256 * page) (256 * page + 256) (λ x. get_or covered x false ≡ true) → IsFirst f es (Event.Unback k page epoch) Illegal.LivesThere
 unback_lives f pages places covered es shows k page epoch within p is backed some =
-    let high : page ≤ f.pages = within.1 in
-    let low : 256 * page ≤ some.0 = some.1 in
-    let until : some.0 < 256 * page + 256 = some.2 in
-    record {
-      applies = search (arith, lives_where, run_meets);
-      others = unback_before f es k page epoch 7 (λ _. not_outside f page within) (λ _. backed_now es page p is backed) (λ lt. absurd (omega (arith, lt))) (λ lt. absurd (omega (arith, lt)));
-    }
+    search (arith, lives_where, run_meets, unback_before, not_outside, backed_now)
 
 -- No live block touches a page without a covered grain.
 pub untouched : (f : Profile) (pages : List Page) (places : List Place) (covered : List Bool) (es : List Event) → Shows f pages places covered es → (page : ℕ)
@@ -387,12 +381,7 @@ module _ (f : Profile) (pages : List Page) (places : List Place) (covered : List
       let here : new p ≡ page_in (e ∷ es) page = cc (page_is f pages places covered es shows page high len same sized p read, changed page, eq-eqb page page refl, now page) in
       let others : (q : ℕ) → page ≢ q → page_in es q ≡ page_in (e ∷ es) q = λ q ne. kept q ∙ ap (after q) (sym (ne_eqb page q ne)) ∙ now q in (
         may,
-        record {
-          run = (may, shows.run);
-          pages_are = λ q h. search (arith, eqb_tells, get_or-set_same, get_or-set_other);
-          places_are = λ g h. shows.places_are g h ∙ places_same g;
-          covered_are = λ x h. grind (arith, same_cover);
-        },
+        search (arith, eqb_tells, get_or-set_same, get_or-set_other, same_cover),
       )
 
   -- A deed that is admitted, noted at its page, makes tables that show it.
@@ -428,11 +417,7 @@ place_set f places es e a v after aligned low are new kept now = λ j within. se
 unmarked : (covered covered' : List Bool) (g n x : ℕ) → ((y : ℕ) → y < g → get_or covered' y false ≡ get_or covered y false)
     → ((y : ℕ) → g + n ≤ y → get_or covered' y false ≡ get_or covered y false)
     → (in_run g n x ≡ true → ⊥) → get_or covered' x false ≡ get_or covered x false
-unmarked covered covered' g n x below above out = elim (leb_tells (g + n) x) [
-  | inl h ↦
-      above x h.1
-  | inr h ↦ below x (elim (leb_tells g x) [ inl h' ↦ absurd (out (to_run g n x h'.1 h.1)) | inr h' ↦ h'.1 ])
-]
+unmarked covered covered' g n x below above out = search (arith, leb_tells, to_run)
 
 give_covered : (f : Profile) (es : List Event) → Run f es → (k : ℕ) (block : Block) → MayGive f es block → (x : ℕ) (t : Bool)
     → (in_run (grain_of block.name) (length_of block) x ≡ true → ⊥) → IsCovered es x t

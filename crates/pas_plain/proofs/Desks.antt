@@ -1,20 +1,19 @@
 -- Desks at a plain region, and their passes.
-use Rattle.std.proofs.Common.{◌≡◌, ◌≢◌, ℕ, zero, suc, ◌+◌, ◌-◌, ◌*◌, ◌/◌, ◌%◌, ◌^◌, ◌<◌, ◌≤◌, min, All, List, [], ◌∷◌, ◌++◌, length, refl, ap, sym, ◌∙◌, arith}
-use Rattle.std.proofs.{Common.{true, subst, Bool, if◌then◌else◌, length-append, append-nil, reverse}, lemmas.List.reverse-append}
+use Rattle.std.proofs.Common.{◌≡◌, ◌≢◌, ℕ, zero, suc, ◌+◌, ◌-◌, ◌*◌, ◌/◌, ◌<◌, ◌≤◌, All, List, [], ◌∷◌, ◌++◌, length, refl, ap, sym, ◌∙◌, arith, true, subst}
+use Rattle.std.proofs.{Common.{Bool, if◌then◌else◌, length-append, append-nil, reverse}, lemmas.List.reverse-append}
 use Rattle.pas_profile.specs.{Rooms.{shown, EventRoom}, Layouts.same_word, Profiles.IsWordOf, declared.{profile.Profile.Profile, word.Word.Word}}
 use Rattle.pas_profile.{specs.declared.event.Event.Event, proofs.Places.same_word-true}
 use Rattle.pas_steps.specs.{Events.{events_of, event_of}, Allowed.{Allowed, IsStepOf}, Agreement.Agrees, Calls.{nothing, Does, Calls}, Clear.IsClear}
-use Rattle.pas_steps.specs.{Clear.HasNothing, Effects.{target, new_value}, Noted.{IsNoted, ShowsRest}, Paged.value_in, Lists.{Whole, part, word_after, Legal}}
-use Rattle.pas_steps.specs.{Views.{known_epoch, View, epoch_of, or_zero, epoch_after}, Told.{AreShort, StandsLater, StandsStill, TellsWord}, Desks.triples}
-use Rattle.pas_steps.specs.{Desks.{Seat, Standing, made, triple, CanMake, Makes}, declared.step.{Made.Made, Step.Step}, Kinds.{Kinds, kind_of, is_in, apart}}
-use Rattle.pas_steps.{specs.Kinds.changing, proofs.{ShortOfGrains.short_alike, Parts.{part_of_others, part_of_own}, Frames.with_few, Called.call_none}}
-use Rattle.pas_steps.proofs.{Called.call_step, Calls.does_idly, Nothing.{nothing_still, calls_rest}, Running.target_of_region, Noting.{rest_noted, count_next}}
+use Rattle.pas_steps.specs.{Clear.HasNothing, Effects.{target, new_value}, Noted.{IsNoted, ShowsRest}, Lists.{Whole, part, word_after, Legal}, Views.View}
+use Rattle.pas_steps.specs.{Views.{epoch_of, or_zero}, Told.{AreShort, StandsLater, StandsStill, TellsWord}, Desks.{triples, Seat, Standing, made, triple}}
+use Rattle.pas_steps.specs.{Desks.{CanMake, Makes}, declared.step.{Made.Made, Step.Step}, Kinds.{Kinds, kind_of, is_in, apart, changing}}
+use Rattle.pas_steps.proofs.{ShortOfGrains.short_alike, Parts.{part_of_others, part_of_own}, Frames.with_few, Called.{call_none, call_step}, Calls.does_idly}
+use Rattle.pas_steps.proofs.{Nothing.{nothing_still, calls_rest}, Running.target_of_region, Noting.{rest_noted, count_next}}
 use Rattle.pas_bits.specs.Bits.{has_bit}
 use Rattle.pas_plain.specs.{Short.IsShortPage, Plain.{actor_of, count_of_pass, CountsMore, word_at, Forgets, PassStands, pass_for, passes_from, profile_of}}
 use Rattle.pas_plain.specs.Plain.{room_of_pass, events_shown, forgotten_by, spare_in, RegionStands, epoch_known, IsExchanged}
-use Rattle.pas_plain.specs.declared.{near.NearWords.NearWords, pass.PlainPass.PlainPass, region.PlainRegion.PlainRegion, desk.PlainDesk.PlainDesk}
-use Rattle.pas_plain.specs.{Seats.{region_of, pass_of, DeskStands, standing_of, shows_rest, spare_of_room, IsChanged}, Storms.{Acts, StormStands, seat_for}}
-use Rattle.pas_plain.specs.Storms.{storm_of, own_stands}
+use Rattle.pas_plain.specs.{declared.{pass.PlainPass.PlainPass, region.PlainRegion.PlainRegion, desk.PlainDesk.PlainDesk}, Seats.{region_of, pass_of}}
+use Rattle.pas_plain.specs.{Seats.{DeskStands, standing_of, spare_of_room, IsChanged}, Storms.{Acts, StormStands, seat_for, storm_of, own_stands}}
 use Rattle.pas_core.proofs.Nexts.{legal_next, agrees_next}
 
 -- ==== Passes that stand: at the opening, and at rest while another actor steps.
@@ -35,14 +34,7 @@ passes_stand f n (room ∷ rooms) few empty (suc k) d h =
 pub pass_rests : (f : Profile) (pass : PlainPass) (k : ℕ) (steps : List Made) (l : Whole) → k ≢ actor_of pass → PassStands f pass l
     → PassStands f pass (triples k steps ++ l)
 pass_rests f pass k steps l other stands =
-    let j = actor_of pass in
-    let same : part j l ≡ part j (triples k steps ++ l) = sym (part_of_others j k steps l other) in
-    record {
-      actor = stands.actor;
-      shown = subst (λ v. ShowsRest (forgotten_by pass) (events_shown pass) (events_of j v)) same stands.shown;
-      count = stands.count ∙ ap (λ v. min (length v) (2 ^ 64 - 1)) same;
-      epoch = stands.epoch ∙ ap known_epoch same;
-    }
+    search (arith, part_of_others)
 
 -- ==== A desk between whose own steps another actor acts.
 
@@ -65,14 +57,7 @@ acted old new own acts v l stood =
     let actor : actor_of (pass_of new) ≡ j = ap (λ (s : Seat). s.actor) acts.calls.adds.seat_is in
     let profile : profile_of (region_of new) ≡ profile_of (region_of old) = ap (λ (s : Seat). s.profile) acts.calls.adds.seat_is in (
       w,
-      record {
-        region_stands = next.region;
-        own_part = subst (λ (f : Profile). PassStands f own w) (sym profile) (pass_rests (profile_of (region_of old)) own j acts.steps l stood.other stood.own_part);
-        foreign_part = next.pass;
-        other = λ e. stood.other (sym actor ∙ e);
-        part_is = part_of_others (actor_of own) j acts.steps l stood.other ∙ stood.part_is;
-        nothing = subst HasNothing (sym next.part_is) after;
-      },
+      search (arith, next, pass_rests, part_of_others),
     )
 
 -- ---- the two passes were exchanged, the foreign actor acted, and they were exchanged again
@@ -82,12 +67,10 @@ pub disturbed : (old seated acts_done new : PlainDesk) (foreign foreign' waiting
     → (v : View) (l : Whole) → StormStands (region_of old) (pass_of old) foreign v l → (w : Whole) × StormStands (region_of new) (pass_of new) foreign' v w
 disturbed old seated acts_done new foreign foreign' waiting region pass own acts region' pass' risen v l stood =
     let before : StormStands (region_of seated) waiting (pass_of seated) v l =
-    subst (λ (r : PlainRegion). StormStands r waiting (pass_of seated) v l) (sym region)
-    (subst (λ (p : PlainPass). StormStands (region_of old) p (pass_of seated) v l) (sym own) (subst (λ (p : PlainPass). StormStands (region_of old) (pass_of old) p v l) (sym pass) stood)) in
+    rw (region, own, pass) stood in
     let after = acted seated acts_done waiting acts v l before in (
       after.0,
-      subst (λ (r : PlainRegion). StormStands r (pass_of new) foreign' v after.0) (sym region')
-          (subst (λ (p : PlainPass). StormStands (region_of acts_done) p foreign' v after.0) (sym pass') (subst (λ (p : PlainPass). StormStands (region_of acts_done) waiting p v after.0) (sym risen) after.1)),
+      rw (region', pass', risen) after.1,
     )
 
 -- ---- an own step
@@ -117,13 +100,7 @@ pub may_step : (old mid : PlainDesk) (foreign foreign' : PlainPass) (s : Step) �
     → CanMake (storm_of old foreign) s → CanMake (standing_of mid) s
 may_step old mid foreign foreign' s profile stands can =
     let at = stands can.view can.stood.0 can.stood.1 in
-    record {
-      of_region = subst (λ (f : Profile). IsStepOf f s) (sym profile) can.of_region;
-      view = can.view;
-      whole = at.0;
-      stood = own_stands mid foreign' can.view at.0 at.1;
-      allowed = subst (λ (f : Profile). Allowed f can.view s) (sym profile) can.allowed;
-    }
+    search arith
 
 abbrev seat_at : Profile → PlainPass → Seat
 seat_at f pass = record { actor = actor_of pass; profile = f; room = room_of_pass pass }
@@ -176,22 +153,11 @@ start fresh of size = record { stood = fresh; actor_is = refl; of_profile = of; 
 -- A desk that made an allowed step stands for its actor's view with that step.
 pub next : {f : Profile} {room k : ℕ} {d d' : PlainDesk} {v : View} {s : Step} {a : ℕ} → At f room k d v → Makes (standing_of d) (standing_of d') s a
     → Allowed f v s → At f room k d' (made s a ∷ v)
-next {f} {room} {k} {d} {d'} {v} {s} {a} at m allowed = record {
-  stood = subst (λ (j : ℕ). DeskStands d' (made s a ∷ v) (triple j (made s a) ∷ triples k v)) at.actor_is (m.added v (triples k v) at.stood (subst (λ (x : Profile). Allowed x v s) (sym at.of_profile) allowed));
-  actor_is = ap (λ (x : Seat). x.actor) m.seat_is ∙ at.actor_is;
-  of_profile = ap (λ (x : Seat). x.profile) m.seat_is ∙ at.of_profile;
-  of_room = ap (λ (x : Seat). x.room) m.seat_is ∙ at.of_room;
-}
+next {f} {room} {k} {d} {d'} {v} {s} {a} at m allowed = search arith
 
 -- A desk can make each step of the region that its actor's view allows.
 pub can : {f : Profile} {room k : ℕ} {d : PlainDesk} {v : View} (s : Step) → At f room k d v → IsStepOf f s → Allowed f v s → CanMake (standing_of d) s
-can {f} {room} {k} {d} {v} s at of allowed = record {
-  of_region = subst (λ (x : Profile). IsStepOf x s) (sym at.of_profile) of;
-  view = v;
-  whole = triples k v;
-  stood = at.stood;
-  allowed = subst (λ (x : Profile). Allowed x v s) (sym at.of_profile) allowed;
-}
+can {f} {room} {k} {d} {v} s at of allowed = search arith
 
 -- each answer is the value of its word
 pub told : {f : Profile} {room k : ℕ} {d : PlainDesk} {v : View} → At f room k d v → Legal (profile_of d.region) (triples k v)
@@ -220,21 +186,7 @@ pass_next : (f : Profile) (old new : PlainPass) (s : Step) (a : ℕ) (l : Whole)
     → forgotten_by new ≡ forgotten_by old
     → IsNoted old.notes new.notes (actor_of old) s a → PassStands f new (triple (actor_of old) (made s a) ∷ l)
 pass_next f old new s a l stands same gone noted =
-    let k = actor_of old in
-    let next = triple k (made s a) ∷ l in
-    let here : k ≡ actor_of new = sym same in
-    let own = sym (own_part k (made s a) l) in
-    let rest = rest_noted (forgotten_by old) old.notes new.notes k s a (part k l) stands.shown stands.epoch noted in
-    let count = count_next (count_of_pass old) (count_of_pass new) (length (part k l)) (length (made s a ∷ part k l)) (omega arith) noted.count stands.count in
-    record {
-      actor = subst (λ (x : ℕ). x ≤ f.threads) here stands.actor;
-      shown =
-          subst (λ (n : ℕ). ShowsRest n (events_shown new) (events_of (actor_of new) (part (actor_of new) next))) (sym gone)
-          (subst (λ (x : ℕ). ShowsRest (forgotten_by old) (events_shown new) (events_of x (part x next))) here
-          (subst (λ v. ShowsRest (forgotten_by old) (events_shown new) (events_of k v)) own rest));
-      count = count ∙ ap (λ v. min (length v) (2 ^ 64 - 1)) own ∙ ap (λ (x : ℕ). min (length (part x next)) (2 ^ 64 - 1)) here;
-      epoch = noted.epoch ∙ ap (epoch_after s a) stands.epoch ∙ ap known_epoch own ∙ ap (λ (x : ℕ). known_epoch (part x next)) here;
-    }
+    search (arith, next, rest_noted, count_next)
 
 -- ---- the region
 -- a word after the step, which wrote its own word
@@ -247,12 +199,7 @@ region_next : (old new : PlainRegion) (e : ℕ) (s : Step) (a : ℕ) (l : Whole)
     → IsWordOf (profile_of old) (target s)
     → Legal (profile_of old) (triple k (made s a) ∷ l) → RegionStands new (triple k (made s a) ∷ l)
 region_next old new e s a l k stands changed ep of legal =
-    record {
-      legal = subst (λ (g : Profile). Legal g (triple k (made s a) ∷ l)) (sym changed.profile) legal;
-      ends = λ w hw.
-          let here = subst (λ (g : Profile). IsWordOf g w) changed.profile hw in
-          changed.words w here ∙ word_next l w e k s a _ (changed.answer_is ∙ stands.ends (target s) of) (stands.ends w here) ep _ refl;
-    }
+    search (arith, word_next)
 
 -- ---- the desk
 abbrev seat : ℕ → Profile → ℕ → Seat
@@ -300,25 +247,7 @@ gone_too n m shown empty es more none rest = record {
 pub forgets : (old new : PlainPass) → actor_of new ≡ actor_of old → events_shown new ≡ [] → forgotten_by new ≡ forgotten_by old + length (events_shown old)
     → room_of_pass new ≡ room_of_pass old → count_of_pass new ≡ count_of_pass old → epoch_known new ≡ epoch_known old → Forgets old new
 forgets old new actor empty forgotten room count epoch =
-    let none = ap length empty in
-    record {
-      actor = actor;
-      empty = empty;
-      forgotten = forgotten;
-      room = room;
-      spare = omega (arith, none, forgotten, room);
-      count = count;
-      stands = λ f l stands.
-          let k = actor_of old in
-          record {
-            actor = subst (λ (x : ℕ). x ≤ f.threads) (sym actor) stands.actor;
-            shown =
-                subst (λ (x : ℕ). ShowsRest (forgotten_by new) (events_shown new) (events_of x (part x l))) (sym actor)
-                (gone_too (forgotten_by old) (forgotten_by new) (events_shown old) (events_shown new) (events_of k (part k l)) forgotten empty stands.shown);
-            count = count ∙ stands.count ∙ ap (λ (x : ℕ). min (length (part x l)) (2 ^ 64 - 1)) (sym actor);
-            epoch = epoch ∙ stands.epoch ∙ ap (λ (x : ℕ). known_epoch (part x l)) (sym actor);
-          };
-    }
+    search (arith, gone_too)
 
 -- .. and so does its desk.
 pub desk_forgets : (old new : PlainDesk) → region_of new ≡ region_of old → Forgets (pass_of old) (pass_of new) → (v : View) (l : Whole)
@@ -333,57 +262,23 @@ desk_forgets old new region pass v l stood = record {
 -- A desk that counted steps which change nothing stands for its lists with them.
 pub told_later : (d new : PlainDesk) (count : ℕ) → region_of new ≡ region_of d → CountsMore count (pass_of d) (pass_of new)
     → StandsLater count (standing_of d) (standing_of new)
-told_later d new count region counts = record {
-  seat_is = seat_same counts.actor (ap (λ (r : PlainRegion). profile_of r) region) counts.room;
-  stands = λ steps many v l stood idle.
-      let k = actor_of d.pass in let next = triples k steps ++ l in let old = shows_rest d v l stood in
-      let own : part k next ≡ steps ++ v = part_of_own k steps l ∙ ap (λ x. steps ++ x) stood.part_is in
-      let same : part (actor_of new.pass) next ≡ steps ++ v = ap (λ (x : ℕ). part x next) counts.actor ∙ own in
-      let events = sym idle.events ∙ ap (λ (x : ℕ). events_of x (steps ++ v)) (sym counts.actor) ∙ ap (λ x. events_of (actor_of new.pass) x) (sym same) in
-      let long = ap length same ∙ length-append steps v in let before = stood.pass.count ∙ ap (λ x. min (length x) (2 ^ 64 - 1)) stood.part_is in
-      record {
-        region = subst (λ (r : PlainRegion). RegionStands r next) (sym region) (record { legal = idle.legal; ends = λ w of. stood.region.ends w of ∙ sym (idle.words w of) });
-        pass = subst (λ (r : PlainRegion). PassStands (profile_of r) new.pass next) (sym region) (record {
-          actor = subst (λ (x : ℕ). x ≤ (profile_of d.region).threads) (sym counts.actor) stood.pass.actor;
-          shown = record { gone = old.gone; many = old.many ∙ sym counts.forgotten; all = ap (λ es. old.gone ++ es) counts.shown ∙ old.all ∙ ap (λ es. reverse es) events };
-          count = omega (arith, counts.count, before, many, long);
-          epoch = counts.epoch ∙ stood.pass.epoch ∙ ap known_epoch stood.part_is ∙ sym idle.epoch ∙ ap known_epoch (sym same);
-        });
-        part_is = same;
-      };
-}
+told_later d new count region counts = search (arith, seat_same, next, part_of_own, length-append, reverse)
 
 -- A desk of which only the notes changed stands as before.
 pub noted_still : (d new : PlainDesk) → profile_of new.region ≡ profile_of d.region → new.region.words ≡ d.region.words → new.pass ≡ d.pass
     → StandsStill (standing_of d) (standing_of new)
-noted_still d new profile words pass = record {
-  seat_is = seat_same (ap (λ (x : PlainPass). actor_of x) pass) profile (ap (λ (x : PlainPass). room_of_pass x) pass);
-  stands = λ v l stood. record {
-    region = record {
-      legal = subst (λ (f : Profile). Legal f l) (sym profile) stood.region.legal;
-      ends = λ w of. ap (λ (ws : NearWords). value_in ws.words w) words ∙ stood.region.ends w (subst (λ (f : Profile). IsWordOf f w) profile of);
-    };
-    pass = subst (λ (f : Profile). PassStands f new.pass l) (sym profile) (subst (λ (x : PlainPass). PassStands (profile_of d.region) x l) (sym pass) stood.pass);
-    part_is = ap (λ (x : PlainPass). part (actor_of x) l) pass ∙ stood.part_is;
-  };
-}
+noted_still d new profile words pass = search (arith, seat_same)
 
 -- The value of a word is told, since all lists for which a plain desk stands end in its words.
 pub tells_word : (d : PlainDesk) (word : Word) → IsWordOf (profile_of d.region) word → TellsWord true (standing_of d) word (word_at d.region word)
-tells_word d word of = record {
-  tells_all = refl;
-  is = λ v l stood. sym (stood.region.ends word of);
-  one_state = λ v v' l l' a b w of'. sym (a.region.ends w of') ∙ b.region.ends w of';
-  actor = λ v l stood. stood.pass.actor;
-}
+tells_word d word of = search arith
 
 -- The pages that its notes have are short by each list for which it stands.
 pub are_short : (d : PlainDesk) (grains align block bits : ℕ)
     → ((b : ℕ) → b < 64 → has_bit bits b ≡ true → IsShortPage (profile_of d.region).pages d.region.words.words grains align (64 * block + b))
     → AreShort (standing_of d) grains align block bits
 are_short d grains align block bits noted b lt bit v l stood =
-    let here = noted b lt bit in short_alike grains align (λ g small. ap (λ n. has_bit n (g % 64))
-    (stood.region.ends (Word.Free (64 * block + b) (g / 64)) (here.of_region.0, here.of_region.1, omega (arith, small)))) here.short
+    let here = noted b lt bit in short_alike grains align (λ g small. cc (stood.region.ends (Word.Free (64 * block + b) (g / 64)) (here.of_region.0, here.of_region.1, omega (arith, small)))) here.short
 
 -- The last passes of a region that nobody used yet.
 -- ---- the last one of a list
@@ -414,9 +309,7 @@ passes_more n (r ∷ rooms) room =
 last_pass : (rooms all : List EventRoom) (room : EventRoom) (passes rest : List PlainPass) (pass : PlainPass)
     → all ≡ rooms ++ room ∷ [] → passes ≡ passes_from 0 all → passes ≡ rest ++ pass ∷ [] → pass ≡ pass_for (length rooms) room
 last_pass rooms all room passes rest pass more from last =
-    let at : 0 + length rooms ≡ length rooms = omega arith in
-    last_same rest (passes_from 0 rooms) pass (pass_for (length rooms) room)
-    (sym last ∙ (from ∙ (ap (passes_from 0) more ∙ (passes_more 0 rooms room ∙ ap (λ (k : ℕ). passes_from 0 rooms ++ pass_for k room ∷ []) at))))
+    search (arith, last_same, passes_more)
 
 fresh_pass : (f : Profile) (region : PlainRegion) (k : ℕ) (room : EventRoom) (pass : PlainPass) → profile_of region ≡ f → k ≤ f.threads → shown room ≡ []
     → pass ≡ pass_for k room → PassStands (profile_of region) pass []
@@ -448,10 +341,4 @@ pub are_two : (f : Profile) (region : PlainRegion) (idle one two : EventRoom) (a
     → passes ≡ (rest ++ first ∷ []) ++ second ∷ []
     → AreTwo region one two first second
 are_two f region idle one two all passes rest first second of threads empty empty' three from last =
-    let is = last_two (pass_for 0 idle) (pass_for 1 one) (pass_for 2 two) rest first second (sym (from ∙ ap (passes_from 0) three) ∙ last) in
-    record {
-      first_is = is.0;
-      second_is = is.1;
-      first_stands = fresh_pass f region 1 one first of (omega (arith, threads)) empty is.0;
-      second_stands = fresh_pass f region 2 two second of (omega (arith, threads)) empty' is.1;
-    }
+    search (arith, last_two)

@@ -1,6 +1,6 @@
 -- The life words of first grains, which stand side by side once more, after a write.
-use Rattle.std.proofs.Common.{◌≡◌, ℕ, ◌-◌, ◌<◌, ◌≤◌, ◌==◌, Bool, false, ◌&&◌, if◌then◌else◌, List, length, slice_index, slice_set, inl, inr, ap, sym, ◌∙◌}
-use Rattle.std.proofs.{Common.{arith, subst, eq-eqb, ne_eqb, get_or-set_same, get_or-set_other}, lemmas.Bool.cases_eq}
+use Rattle.std.proofs.Common.{◌≡◌, ℕ, ◌-◌, ◌<◌, ◌≤◌, ◌==◌, false, ◌&&◌, if◌then◌else◌, List, length, slice_index, slice_set, inl, inr, ap, sym, ◌∙◌, arith}
+use Rattle.std.proofs.{Common.{subst, eq-eqb, ne_eqb, get_or-set_same, get_or-set_other}, lemmas.Bool.cases_eq}
 use Rattle.pas_profile.specs.{Layouts.same_word, Profiles.IsWordIn, declared.word.{Layout.Layout, Word.Word}}
 use Rattle.pas_steps.specs.{Paged.value_in, declared.paged.PagedWords.PagedWords}
 
@@ -23,8 +23,7 @@ module _ (old new : PagedWords) (firsts : List ℕ) (value : ℕ) (layout : new.
   first_written page written some within q low high =
       let now = written (Word.Life q 0) (low, most q high, omega arith) in elim (cases_eq q page) [
         | inl e ↦
-            ap (λ n. slice_index (slice_set firsts (page - 1) value) (n - 1)) e ∙ get_or-set_same firsts (page - 1) value 0 within
-            ∙ sym (now ∙ ap (λ t. if t then value else value_in old (Word.Life q 0)) (eq-eqb page q (sym e)))
+            cc (get_or-set_same firsts (page - 1) value 0 within, eq-eqb page q (sym e))
         | inr ne ↦
             get_or-set_other firsts (page - 1) (q - 1) value 0 (λ same. ne (omega (arith, same, low, some))) ∙ are q low (most q high)
             ∙ sym (now ∙ ap (λ t. if t then value else value_in old (Word.Life q 0)) (ne_eqb page q (λ same. ne (sym same))))

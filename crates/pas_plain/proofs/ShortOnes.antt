@@ -1,13 +1,13 @@
 -- Pages that are noted as short of free grains: as a word is written, and as notes come and go.
-use Rattle.std.proofs.Common.{◌≡◌, ◌≢◌, ℕ, zero, suc, ◌+◌, ◌-◌, ◌*◌, ◌/◌, ◌%◌, ◌^◌, ◌<◌, ◌≤◌, ◌==◌, Bool, true, false, not, ◌&&◌, ◌||◌, if◌then◌else◌, ◌⊎◌, inl}
-use Rattle.std.proofs.Common.{inr, List, [], ◌∷◌, ◌++◌, length, replicate, refl, ap, sym, ◌∙◌, arith, subst, true≢false, bit_and, w64, eq-eqb, ne_eqb, eqb-true}
-use Rattle.std.proofs.{Common.{get_or, get_or-set_same, get_or-set_other, slice_index, slice_set, length-set, Option, None, Some, MatchOption}, Math.ListN.set}
-use Rattle.std.{proofs.lemmas.Bool.{cases_eq, cases_Bool, not-false, not-true, and_parts, or_cases, false_from_ne_true}, specs.{Int.bit_not, Option.is_some}}
+use Rattle.std.proofs.Common.{◌≡◌, ◌≢◌, ℕ, zero, suc, ◌+◌, ◌-◌, ◌/◌, ◌%◌, ◌^◌, ◌<◌, ◌≤◌, ◌==◌, Bool, true, false, not, ◌&&◌, ◌||◌, if◌then◌else◌, ◌⊎◌, inl, inr}
+use Rattle.std.proofs.Common.{List, [], ◌∷◌, ◌++◌, length, replicate, refl, ap, sym, ◌∙◌, arith, true≢false, bit_and, w64, eq-eqb, ne_eqb, get_or}
+use Rattle.std.proofs.{Common.{get_or-set_same, get_or-set_other, slice_index, length-set, Option, MatchOption}, Math.ListN.set, lemmas.Bool.cases_eq}
+use Rattle.std.{proofs.lemmas.Bool.{not-false, not-true, and_parts, false_from_ne_true}, specs.{Int.bit_not, Option.is_some}}
 use Rattle.pas_bits.specs.{declared.mask.Mask4.Mask4, Masks.{is_set, HasMember, HasNoPlace}, Bits.has_bit, PageVectors.{is_in_word, page_mask}}
 use Rattle.pas_bits.proofs.{PageVectors.page_bit-clear, Words.{bit_cleared, none_of_zero}}
 use Rattle.pas_profile.{specs.{Layouts.same_word, Profiles.IsWordIn, declared.word.Word.Word}, proofs.Places.same_word-true}
 use Rattle.pas_steps.{specs.{Paged.value_in, Told.free_by, declared.paged.PagedWords.PagedWords}, proofs.ShortOfGrains.short_alike}
-use Rattle.pas_plain.specs.{ShortRows.{has_page, no_row, row_at}, Short.{GotNone, HasNote, IsRowOf, IsShortPage}, declared.short.ShortPages.ShortPages}
+use Rattle.pas_plain.specs.{ShortRows.{has_page, no_row, row_at}, Short.{GotNone, HasNote, IsShortPage}, declared.short.ShortPages.ShortPages}
 use Rattle.pas_plain.specs.declared.short.ShortRow.{ShortRow}
 
 -- ---- bits
@@ -17,8 +17,7 @@ clear_as t b = grind arith
 -- A page's word without the page has each other page that it had.
 pub page_cleared : (word page p : ℕ) → p / 64 ≡ page / 64 → is_in_word (bit_and word (bit_not w64 (page_mask page))) p ≡ (not (page == p) && is_in_word word p)
 page_cleared word page p same =
-    ap (λ t. has_bit (if t then bit_and word (bit_not w64 (page_mask page)) else word) (p % 64)) (sym (eq-eqb (page / 64) (p / 64) (sym same)))
-    ∙ page_bit-clear page p word true ∙ clear_as (page == p) (is_in_word word p)
+    cc (eq-eqb (page / 64) (p / 64) (sym same), page_bit-clear page p word true, clear_as (page == p) (is_in_word word p))
 
 -- Where nothing is left of a word without another, it has no bit that the other hasn't.
 pub got_none : (old new : ℕ) → old < 2 ^ 64 → bit_and new (bit_not w64 old) ≡ 0 → GotNone old new
@@ -36,16 +35,7 @@ note_there old new at row written within g a p note =
           let here = row_is ∙ ap (λ i. get_or (set old.rows.items at row) i no_row) e ∙ get_or-set_same old.rows.items at row no_row within in
           inr (sym (ap (λ (r : ShortRow). r.grains) here) ∙ note.row.grains_are, sym (ap (λ (r : ShortRow). r.align) here) ∙ note.row.align_is, sym (ap (λ (r : ShortRow). has_page r.pages p) here) ∙ note.here)
       | inr ne ↦
-          let there = row_is ∙ get_or-set_other old.rows.items at note.at row no_row ne in
-          inl (record {
-            at = note.at;
-            row = record {
-              within = let same = ap length written ∙ length-set old.rows.items at row in let small = note.row.within in omega (arith, same, small);
-              grains_are = sym (ap (λ (r : ShortRow). r.grains) there) ∙ note.row.grains_are;
-              align_is = sym (ap (λ (r : ShortRow). r.align) there) ∙ note.row.align_is;
-            };
-            here = sym (ap (λ (r : ShortRow). has_page r.pages p) there) ∙ note.here;
-          })
+          search (arith, row_is, get_or-set_other, length-set)
     ]
 
 -- one word was written
@@ -58,14 +48,12 @@ module _ (pages within heaps : ℕ) (same : within ≡ pages) (old new : PagedWo
   pub short_apart : ((i : ℕ) → same_word word (Word.Free p i) ≡ false) → IsShortPage pages old grains align p → IsShortPage pages new grains align p
   short_apart other short = record {
     of_region = short.of_region;
-    short = short_alike grains align (λ g lt. sym (ap (λ n. has_bit n (g % 64)) (written (Word.Free p (g / 64)) (short.of_region.0, omega (arith, short.of_region.1, same), omega (arith, lt))
-        ∙ ap (λ t. if t then value else value_in old (Word.Free p (g / 64))) (other (g / 64))))) short.short;
+    short = short_alike grains align (λ g lt. cc (written (Word.Free p (g / 64)) (short.of_region.0, omega (arith, short.of_region.1, same), omega (arith, lt)), other (g / 64))) short.short;
   }
 
   free_before : (g : ℕ) (t : Bool) → same_word word (Word.Free p (g / 64)) ≡ t → GotNone (value_in old word) value
       → has_bit (if t then value else value_in old (Word.Free p (g / 64))) (g % 64) ≡ true → free_by (value_in old) p g ≡ true
-  free_before g true same got free = ap (λ w. has_bit (value_in old w) (g % 64)) (sym (same_word-true word (Word.Free p (g / 64)) same)) ∙ got (g % 64) (omega arith) free
-  free_before g false same got free = free
+  free_before g t same got free = search (arith, same_word-true)
 
   -- by which none of its grains got free, and after which some is free still
   pub short_still : GotNone (value_in old word) value → (((g : ℕ) → g < 256 → free_by (value_in new) p g ≡ false) → ⊥) → IsShortPage pages old grains align p
@@ -123,19 +111,12 @@ pub note_pushed : (old new : ShortPages) (row : ShortRow) → new.rows.items ≡
     → HasNote new g a p → HasNote old g a p
 note_pushed old new row is none g a p note =
     let at = row_pushed old.rows.items new.rows.items row is none note.at p note.here in
-    record {
-      at = note.at;
-      row = record { within = at.0; grains_are = ap (λ (r : ShortRow). r.grains) (sym at.1) ∙ note.row.grains_are; align_is = ap (λ (r : ShortRow). r.align) (sym at.1) ∙ note.row.align_is };
-      here = ap (λ (r : ShortRow). has_page r.pages p) (sym at.1) ∙ note.here;
-    }
+    search arith
 
 -- the pages of a row after one was written
 pub row_there : (rows : List ShortRow) (at : ℕ) (row : ShortRow) → at < length rows → (i p : ℕ) → has_page (row_at (set rows at row) i).pages p ≡ true
     → (has_page row.pages p ≡ true) × (i ≡ at) ⊎ (has_page (row_at rows i).pages p ≡ true) × (i ≢ at)
-row_there rows at row lt i p here = elim (cases_eq i at) [
-  | inl e ↦ inl (sym (ap (λ j. has_page (get_or (set rows at row) j no_row).pages p) e ∙ ap (λ (r : ShortRow). has_page r.pages p) (get_or-set_same rows at row no_row lt)) ∙ here, e)
-  | inr ne ↦ inr (sym (ap (λ (r : ShortRow). has_page r.pages p) (get_or-set_other rows at i row no_row ne)) ∙ here, ne)
-]
+row_there rows at row lt i p here = search (arith, cases_eq, get_or-set_same, get_or-set_other)
 
 -- ---- a page comes, or goes
 module _ (words read : List ℕ) (same : read ≡ words) (page n p : ℕ) (within : page / 64 < length words) where
@@ -149,24 +130,14 @@ module _ (words read : List ℕ) (same : read ≡ words) (page n p : ℕ) (withi
   pub page_without : (p / 64 ≡ page / 64 → is_in_word n p ≡ (not (page == p) && is_in_word (get_or read (page / 64) 0) p))
       → has_page (set words (page / 64) n) p ≡ true → (p ≢ page) × (has_page words p ≡ true)
   page_without so here =
-      let now = λ (e : p / 64 ≡ page / 64). so e ∙ ap (λ ws. not (page == p) && is_in_word (get_or ws (page / 64) 0) p) same in
-      let is : has_page (set words (page / 64) n) p ≡ (not (page == p) && has_page words p) = search (arith, cases_eq, get_or-set_same, get_or-set_other, ne_eqb, now) in
-      let both = and_parts (not (page == p)) (has_page words p) (sym is ∙ here) in
-      (λ e. true≢false (sym (eq-eqb page p (sym e)) ∙ not-true (page == p) both.0), both.1)
+      search (arith, cases_eq, get_or-set_same, get_or-set_other, ne_eqb, and_parts, true≢false, eq-eqb, not-true)
 
 -- ---- what is noted
 pub none_there : {A : Type 0} (B : ℕ → Type 0) (o : Option ℕ) → MatchOption o A B → is_some o ≡ false → A
-none_there B None match none = match
-none_there B (Some x) match none = absurd (true≢false none)
+none_there B o match given = search (arith, true≢false)
 
 -- A page with a free grain and without such a run of free ones is short.
 pub noted_short : (pages : ℕ) (words : PagedWords) (grains align page : ℕ) (free : Mask4) → (1 ≤ page) × (page ≤ pages)
     → ((g : ℕ) → g < 256 → is_set free g ≡ free_by (value_in words) page g) → HasMember free → HasNoPlace free grains align 256
     → IsShortPage pages words grains align page
-noted_short pages words grains align page free of same member none = record {
-  of_region = of;
-  short = record {
-    some = λ all. true≢false (sym member.2 ∙ same member.0 member.1 ∙ all member.0 member.1);
-    none = λ h aligned within run. none h (record { aligned = aligned; within = within; set = λ x low high. same x (omega (arith, high, within)) ∙ run x low high });
-  };
-}
+noted_short pages words grains align page free of same member none = search (arith, true≢false)

@@ -1,13 +1,13 @@
 -- A run of grains is given as a block.
-use Rattle.std.proofs.Common.{◌≡◌, ℕ, ◌+◌, ◌*◌, ◌/◌, ◌^◌, ◌<◌, ◌≤◌, Bool, true, false, if◌then◌else◌, [], ◌∷◌, Some, refl, ap, sym, ◌∙◌, subst, arith, inl}
-use Rattle.std.proofs.{Common.eq-eqb, lemmas.Bool.and_from}
+use Rattle.std.proofs.Common.{◌≡◌, ℕ, ◌+◌, ◌*◌, ◌/◌, ◌^◌, ◌<◌, ◌≤◌, true, false, if◌then◌else◌, [], ◌∷◌, Some, refl, ap, sym, ◌∙◌, arith, inl, eq-eqb}
+use Rattle.std.proofs.lemmas.Bool.{and_from}
 use Rattle.pas_profile.specs.{Lives.turn_of, Profiles.{IsPage, IsDirectoryOf}, Blocks.{grain_of, length_of}, declared.directory.Directory.Directory}
 use Rattle.pas_profile.specs.declared.{name.Block.Block, profile.Profile.Profile, word.Word.Word}
 use Rattle.pas_bits.{specs.Runs.in_run, proofs.Runs.{run_of, first_of_run}}
-use Rattle.pas_steps.specs.{Agreement.Agreed, Allowed.{IsBlockOf, KnowsBearing, MayGiveNow}, Lists.Whole, Calls.{Kept, Lost, later, grain_fate, freed}}
-use Rattle.pas_steps.specs.{Desks.{Standing, made, Makes, CanMake, CanCall, Adds}, Views.{View, Gives, Stays, holds, holds_on, knows_backed, known_life}}
-use Rattle.pas_steps.{specs.{Views.{KnowsDeed, is_unstamped}, declared.step.Step.TheVariants.{Look, Give}}, proofs.Adding.{adds_none, adds_step, can_step}}
-use Rattle.pas_steps.proofs.{Adding.room_left, Frames.{backed_holds, given_le}, Calls.{does_as, does_step, does_then}, SpareRoom.Spares}
+use Rattle.pas_steps.specs.{Agreement.Agreed, Allowed.{IsBlockOf, KnowsBearing, MayGiveNow}, Lists.Whole, Calls.{Kept, Lost}, Desks.{Standing, made, Makes}}
+use Rattle.pas_steps.specs.{Desks.{CanMake, CanCall, Adds}, Views.{View, holds, knows_backed, known_life, KnowsDeed, is_unstamped}}
+use Rattle.pas_steps.{specs.declared.step.Step.TheVariants.{Look, Give}, proofs.{Adding.{adds_none, adds_step, can_step, room_left}, Frames.backed_holds}}
+use Rattle.pas_steps.proofs.{Frames.given_le, Calls.{does_as, does_step, does_then}, SpareRoom.Spares}
 use Rattle.pas_rights.specs.Gives.{in_piece, MayGive, block_of, give_steps, GaveRun, GivesRun}
 
 -- ---- what may be given
@@ -99,9 +99,4 @@ module _ (heap page first n word : ℕ) where
     -- A look at the life word, and then the give, give the run.
     pub gives_run : {σ2 : Standing} (answer : ℕ) (given : Block) → given ≡ block_of heap page first n word → Makes σ1 σ2 (Give given) answer
         → GivesRun heap page first n given σ σ2
-    gives_run {σ2} answer given is give = subst (λ b. GivesRun heap page first n b σ σ2) (sym is) (record {
-      word = word;
-      answer = answer;
-      block_is = refl;
-      calls = search (arith, adds_step, look_adds, may_give, gave);
-    })
+    gives_run {σ2} answer given is give = rw is (record { word = word; answer = answer; block_is = refl; calls = search (arith, adds_step, look_adds, may_give, gave) })

@@ -1,20 +1,20 @@
 -- Steps for each free word in turn, and readings that stand while the right is kept.
 use Rattle.std.proofs.Common.{◌≡◌, ℕ, zero, suc, ◌+◌, ◌*◌, ◌/◌, ◌%◌, ◌<◌, ◌≤◌, Bool, true, false, ◌||◌, List, [], ◌∷◌, ◌++◌, length, slice_index, inl, inr}
 use Rattle.std.proofs.Common.{refl, ap, sym, ◌∙◌, subst, arith, append_assoc, length-append, true≢false, ◌≢◌, ◌-◌, ◌^◌, ◌==◌, not, ◌&&◌, if◌then◌else◌, ◌⊎◌}
-use Rattle.std.proofs.{Common.{MatchBool, eq-eqb, lt-ltb, Option, None, Some, ne_eqb, eqb-true}, lemmas.Bool.{cases_eq, and_from, and_parts, not_from_false}}
+use Rattle.std.proofs.{Common.{MatchBool, eq-eqb, lt-ltb, Option, None, Some, ne_eqb, eqb-true}, lemmas.Bool.{cases_eq, and_from, not_from_false}}
 use Rattle.std.proofs.lemmas.Bool.{false_from_ne_true, cases_Bool, MatchBool-at_false}
-use Rattle.pas_bits.{specs.{Bits.has_bit, Masks.{is_set, IsEmpty, HasMember}, declared.mask.Mask4.Mask4}, proofs.Words.{at_word, full_bit}}
-use Rattle.pas_profile.specs.{declared.{profile.Profile.Profile, directory.{Directory.Directory, Kind.Kind}, word.Word.Word}, Directories.{IsKind, IsDirectory}}
-use Rattle.pas_profile.{specs.Directories.{deed_word_of, number_of}, proofs.{Sizes.usable_grains_ge, Codecs.{read-deed_word_of, deed_word_of-positive}}}
+use Rattle.pas_bits.{specs.{Bits.has_bit, Masks.{is_set, IsEmpty}, declared.mask.Mask4.Mask4}, proofs.Words.{at_word, full_bit}}
+use Rattle.pas_profile.specs.{declared.{profile.Profile.Profile, directory.{Directory.Directory, Kind.Kind}, word.Word.Word}, Directories.IsDirectory}
+use Rattle.pas_profile.{specs.Directories.deed_word_of, proofs.{Sizes.usable_grains_ge, Codecs.{read-deed_word_of, deed_word_of-positive}}}
 use Rattle.pas_steps.specs.{Agreement.Agreed, Past.{Always, Since, Once}, Clear.{OwesNothing, IsClearOn}, Evidence.{KeptHere, Readings, ReadsFree, ShowsHere}}
 use Rattle.pas_steps.specs.{Frames.{GivesUp, KeepsRight, AreLooks, OnlyOn, IsOnPage, IsReturn, OnlyReturns}, Views.{View, has_right, all_ones, usable_by_kind}}
-use Rattle.pas_steps.specs.Views.{no_usable, holds, known_free, Way, Rests, had_after, known_deed, KnowsDeed, ToOffer, owes_check, owes_hint, is_unstamped}
-use Rattle.pas_steps.specs.{Views.examines, Kinds.{Kinds, Offering, Parking, kind_of, place_of, is_in, apart, Only, LookFree, Claiming, returning}}
-use Rattle.pas_steps.specs.{declared.step.{Made.Made, Step.{Step, TheVariants.{Look, Offer, Park, TakeRight}}}, Desks.{AnyView, Standing, Makes, Adds, made}}
-use Rattle.pas_steps.{specs.Calls.{Kept, Gained, now, Fate, Lost, Does, ClearAfter, on_page}, proofs.Adding.{agreed_first, agreed_later, adds_step, adds_none}}
-use Rattle.pas_steps.proofs.{Adding.{adds_call, adds_under}, Apart.{in_apart, holds_same, rights_same, deeds_same, unstamped_same}, Frames.rights_stay}
-use Rattle.pas_steps.proofs.{Frames.{examined_on, returns_on}, Past.{always_both, always_map, once_later}, Bits.all_below-from, Flags.{stays_set, ends_none}}
-use Rattle.pas_steps.proofs.Calls.{does_on_page, does_as, does_returns, returns_are}
+use Rattle.pas_steps.specs.Views.{no_usable, holds, known_free, Way, Rests, had_after, known_deed, KnowsDeed, owes_check, owes_hint, is_unstamped, examines}
+use Rattle.pas_steps.specs.{Kinds.{Kinds, Offering, Parking, kind_of, is_in, apart, Only, LookFree, Claiming, returning}, declared.step.Made.Made}
+use Rattle.pas_steps.specs.{declared.step.Step.TheVariants.{Look, Offer, Park, TakeRight}, Desks.{AnyView, Standing, Makes, Adds, made}, Calls.{Kept, Gained}}
+use Rattle.pas_steps.{specs.Calls.{now, Fate, Lost, Does, on_page}, proofs.Adding.{agreed_first, agreed_later, adds_step, adds_none, adds_call, adds_under}}
+use Rattle.pas_steps.proofs.{Apart.{in_apart, holds_same, rights_same, deeds_same, unstamped_same}, Frames.{rights_stay, examined_on, returns_on}}
+use Rattle.pas_steps.proofs.{Past.{always_both, always_map, once_later}, Bits.all_below-from, Flags.{stays_set, ends_none}, Calls.{does_on_page, does_as}}
+use Rattle.pas_steps.proofs.Calls.{does_returns, returns_are}
 use Rattle.pas_rights.specs.{Words.{each_word, words, full, ones}, Puts.masked, Claims.Claims, Looks.{looks, HasUsable, HasNoUsable, IsAllFree, HasUsed}}
 use Rattle.pas_rights.specs.{Looks.{looks_until, AreUsed, is_free, HintsWhere, HintSteps, ReadsPage, ReadsUntilUsed}, Leaves.{ReoffersWhere, OfferSteps}}
 use Rattle.pas_rights.specs.{Leaves.{ParkSteps, EndsLeave, LeaveSteps, LosesHere, MayLeave, Leaves}, Returns.{ReofferSteps, ReturnSteps, ReoffersPage}}
@@ -519,10 +519,4 @@ pub returned_by : {σ σ1 σ2 σ3 : Standing} (p : ℕ) (d : Directory) (used : 
 returned_by {σ} {σ1} {σ2} {σ3} p d used r s after adds hints =
     let steps = after ++ (looks_until p used ++ r.steps) in
     let order : ReturnSteps p d steps = record { first = r.steps; reoffers = r.order; used = used; are = s.are; after = after; hints = hints; steps_are = refl } in
-    record {
-      steps = steps;
-      calls = search (arith, adds_call, settles, return_returns, return_right, return_owes);
-      order = order;
-      returns = return_returns p d steps order;
-      few = return_few p d steps order;
-    }
+    search (arith, adds_call, settles, return_returns, return_right, return_owes, return_few)

@@ -227,9 +227,7 @@ module _ (page : ℕ) (masks answers : ℕ → ℕ) where
   takes_right n v right = rights_same (Taking ∷ []) refl page (takes page masks answers n) v (takes_only n) ∙ right
 
   got_more : (n g : ℕ) → (got_below page masks answers n g || got_word page n (masks n) (answers n) g) ≡ got_below page masks answers (suc n) g
-  got_more n g = ap (λ t. got_below page masks answers n g || t)
-      (grind arith)
-      ∙ shared (nat_lt (g / 64 % 4) n) (n == g / 64 % 4) (got_in page masks answers g) ∙ ap (λ t. t && got_in page masks answers g) (sym (next_word _ n) ∙ ap (nat_lt (g / 64 % 4)) (add-one n))
+  got_more n g = search (arith, shared, next_word, add-one)
 
   none_got_below : (g : ℕ) → got_below page masks answers 0 g ≡ false
   none_got_below g = ap (λ t. t && got_in page masks answers g) (le-ltb (g / 64 % 4) 0 (omega arith))
@@ -497,9 +495,7 @@ hints_where all_free page steps xs h read rest = grind (arith, due_step)
 -- ---- what follows puts
 return_due : (page : ℕ) (d : Directory) (steps : List Made) → ReturnSteps page d steps → Always GivesDuly steps
 return_due page d steps h =
-    let before = looks_until page h.used ++ h.first in
-    let rest = due_both _ h.first (due_none (LookFree ∷ []) _ refl (until_only page h.used)) (grind (arith, due_step)) in
-    subst (Always GivesDuly) (sym h.steps_are) (hints_where _ page h.after before h.hints (λ free. (λ word lt. grind (arith, read_earlier, all_read, full_bit, true≢false))) rest)
+    search (arith, due_both, due_none, until_only, due_step, hints_where, read_earlier, all_read, full_bit, true≢false)
 
 -- ---- a leave
 free_word : (all_free : Bool) (free : Mask4) → MatchBool all_free (IsAllFree free) (HasUsed free) → all_free ≡ true → (word : ℕ) → word < 4 → (b : ℕ) → b < 64

@@ -72,10 +72,7 @@ fresh_before d p ys xs alone (inr since) = inr (since_earlier _ _ _ _ ys xs (one
 pub unusable_here : (d : Directory) (p : ℕ) (xs : List Made) → LeftAlone p xs → (m : Made) (before : List Made) → UnusableHere d p m before
     → UnusableHere d p m (before ++ xs)
 unusable_here d p xs alone m before (inl other) = inl other
-unusable_here d p xs alone m before (inr (inl zero_read)) = inr (inl (
-  ((zero_read.0.0.0, zero_read.0.0.1, right_own p before xs alone.right ∙ zero_read.0.0.2), fresh_before d p before xs alone zero_read.0.1),
-  once_earlier _ _ before xs (λ m before h. h) zero_read.1,
-))
+unusable_here d p xs alone m before (inr (inl zero_read)) = search (arith, right_own, fresh_before, once_earlier)
 unusable_here d p xs alone m before (inr (inr used)) = inr (inr (used.0, used.1, used.2, λ free. used.3 (free_after p used.0 _ before xs alone used.1 free)))
 
 -- A page that was once read as not usable is so read behind steps that left it alone.
@@ -138,13 +135,7 @@ lower_bad d from n page length ys xs alone short before here s ge lt = elim (cas
 pub run_more : (d : Directory) (from next n page length : ℕ) (ys xs : List Made) (usable : Bool) → LeftAlone page xs → from ≤ page
     → RunSoFar d from next n page length xs → Once (DeedReadHere page) ys → MatchBool usable (ReadUsable d page ys) (Once (UnusableHere d page) ys)
     → (if usable then length + 1 else 0) ≢ n → RunSoFar d from next n (page + 1) (if usable then length + 1 else 0) (ys ++ xs)
-run_more d from next n page length ys xs true alone le so_far deed here ne = let short = so_far.short in let within = so_far.within in record {
-  short = omega (arith, short, ne);
-  within = omega (arith, within);
-  usable = pages_more d next page length ys xs alone so_far.usable here;
-  lower = lower_more d from n page length ys xs so_far.lower;
-  deeds = deeds_more next page ys xs so_far.deeds deed;
-}
+run_more d from next n page length ys xs true alone le so_far deed here ne = search (arith, pages_more, lower_more, deeds_more)
 run_more d from next n page length ys xs false alone le so_far deed here ne = let short = so_far.short in record {
   short = omega (arith, short);
   within = omega (arith, le);
@@ -280,5 +271,4 @@ run_past d from next n length (suc many) deeds offered le so_far of held =
 
 -- The length is kept where no page was passed by.
 pub kept_is : (next length many : ℕ) → (if nat_lt next (next + many) then 0 else length) ≡ kept_after length many
-kept_is next length zero = ap (λ t. if t then 0 else length) (le-ltb next (next + 0) (omega arith))
-kept_is next length (suc many) = ap (λ t. if t then 0 else length) (lt-ltb next (next + suc many) (omega arith))
+kept_is next length many = search (arith, le-ltb, lt-ltb)

@@ -8,9 +8,9 @@ use Rattle.std.{proofs.Math.{Bool.{or_comm, and-true}, ListN.{set, get_or}, Pow.
 use Rattle.pas_profile.specs.{declared.{profile.Profile.Profile, word.Word.{Word as TheWord, Word}, directory.Directory.Directory}, Directories.deed_word_of}
 use Rattle.pas_profile.{specs.{Directories.{IsKind, number_of, deed_word_numbered}, Profiles.IsPage}, proofs.Codecs.numbered}
 use Rattle.pas_steps.specs.{Views.{View, has_right, right_after, known_deed, deed_after, KnowsDeed}, Past.{Once, Always}, Frames.{IsScan, OnlyScans}}
-use Rattle.pas_steps.specs.{Desks.made, Kinds.{kind_of, is_in, Only}, Agreement.{Agreed, Agrees, AgreesEligible}, Evidence.{ReadsDeed, DeedHere, IsSingle}}
-use Rattle.pas_steps.specs.{Evidence.{ReadsParked, ParkedHere, ReadsEligible, ZeroHere}, declared.step.{Step.{Step, TheVariants.Look}, Made.Made}}
-use Rattle.pas_steps.proofs.{Past.{always_map, always_both, once_later, once_earlier}, Apart.only_both}
+use Rattle.pas_steps.specs.{Desks.made, Kinds.{kind_of, is_in, Only}, Agreement.{Agreed, AgreesEligible}, Evidence.{ReadsDeed, DeedHere, IsSingle, ReadsParked}}
+use Rattle.pas_steps.{specs.{Evidence.{ParkedHere, ReadsEligible, ZeroHere}, declared.step.{Step.{Step, TheVariants.Look}, Made.Made}}, proofs.Past.always_map}
+use Rattle.pas_steps.proofs.{Past.{always_both, once_later, once_earlier}, Apart.only_both}
 use Rattle.pas_scan.specs.{Rows.{looks_from, eligible_looks, WordReadHere, shows_page, IsLowestShown, ShowsNone}, Passed.NoneIs, Marks.{is_marked, IsHighest}}
 use Rattle.pas_scan.specs.Scan.{IsFirstBare, IsMember, AllParked, InBlock, judging, IsFirstOffered, deed_looks}
 use Rattle.pas_bits.{specs.{Bits.has_bit, PageVectors.is_in_word, Rows.{is_set, IsEmpty, IsLowestSet, IsWithin}}, proofs.Words.{bit_cleared, bit_of_or}}
@@ -204,10 +204,7 @@ module _ (block first : ℕ) where
   -- None of the pages is a member.
   pub passed_members : (f : Profile) (marks : List ℕ) (d : Directory) (answers : List ℕ) → NoneIs (deed_word_of d) answers → AreOf answers
       → Members f marks d block first (first + length answers) 0 (deed_looks first answers)
-  passed_members f marks d [] none at = record {
-    all = λ v p e low high. absurd (omega (arith, low, high));
-    only = λ v p e bit. absurd (true≢false (sym bit ∙ none_of_zero (p % 64)));
-  }
+  passed_members f marks d [] none at = search (arith, true≢false, none_of_zero)
   passed_members f marks d (a ∷ more) none at =
       let page : ℕ = first + length more in
       let next : page + 1 ≡ first + length (a ∷ more) = omega arith in
@@ -243,8 +240,7 @@ parked_more f marks d block end members a ms steps small scans deeds before all 
       let some = is.of_region.0 in
       inl (
         ReadsParked.Looks block (sym at),
-        not-false (has_bit a (p % 64)) (sym (ap (λ t. t && not (has_bit a (p % 64))) bit)
-            ∙ sym (bit_cleared members a (p % 64) small (omega arith)) ∙ none p some at lt),
+        not-false (has_bit a (p % 64)) (cc (bit_cleared members a (p % 64) small (omega arith), none p some at lt)),
         scans_lack (ms ++ steps) p scans,
       )
 ]
@@ -332,8 +328,7 @@ marked_bits words block bits p within = search (arith, cases_eq, get_or-set_same
 higher_none : (n from c : ℕ) → n / 2 ^ from ≡ 0 → from ≤ c → has_bit n c ≡ false
 higher_none n from c none le =
     let whole : c ≡ from + (c - from) = omega (arith, le) in
-    ap (λ m. m == 1) (ap (λ i. n / 2 ^ i % 2) whole ∙ ap (λ m. m % 2) (sym (shr-shr n from (c - from))) ∙ ap (λ m. m / 2 ^ (c - from) % 2) none)
-    ∙ none_of_zero (c - from)
+    cc (shr-shr n from (c - from), none_of_zero (c - from))
 
 -- What is left of a word from its highest bit on is that bit.
 pub highest_at : (n low : ℕ) → n / 2 ^ low ≢ 0 → n / 2 ^ (low + 1) ≡ 0 → low < 64 → IsHighest n low
@@ -420,10 +415,7 @@ word_agrees f v number block a (m ∷ before) scans agreed (inr h) = word_agrees
 one_page : (f : Profile) (v : View) (number page a : ℕ) (steps : List Made) → OnlyScans steps → Agreed f v steps
     → Once (WordReadHere number (page / 64) a) steps → has_bit a (page % 64) ≡ true → IsPage f page × (has_right v page ≡ false)
 one_page f v number page a steps scans agreed h bit =
-    let w = word_agrees f v number _ a steps scans agreed h in let whole : 64 * (page / 64) + page % 64 ≡ page = omega arith in (
-      subst (IsPage f) whole (w.2.page (page % 64) (omega arith) bit),
-      false_from_ne_true _ (λ has. true≢false (sym bit ∙ w.2.right (page % 64) (omega arith) (ap (has_right (w.0 ++ v)) whole ∙ right_scans w.0 v page w.1 ∙ has))),
-    )
+    search (arith, word_agrees, false_from_ne_true, true≢false, right_scans)
 
 -- a deed that is known stays so over a look at a word of its directory
 stays_so : (t : Bool) (deed known : ℕ) → known ≡ deed → (if t then deed else known) ≡ deed
@@ -498,10 +490,7 @@ zeros_later d next end ys xs zeros p low high = once_later (ZeroHere d p) ys xs 
 
 -- ---- the bits of the pages below the next one
 pub low_bits : (block next low ones b : ℕ) → ones ≡ 2 ^ low - 1 → low ≡ next - 64 * block → b < 64 → has_bit ones b ≡ nat_lt (64 * block + b) next
-low_bits block next low ones b is at h = elim (cases_lt b low) [
-  | inl lt ↦ ap (λ n. has_bit n b) is ∙ is_one _ b (bit_at_ones low b lt) ∙ sym (lt-ltb _ next (omega (arith, at, lt)))
-  | inr ge ↦ ap (λ n. has_bit n b) is ∙ is_zero _ b (let some = pow_pos low in bit_at_above _ low b (omega (arith, some)) ge) ∙ sym (le-ltb _ next (omega (arith, at, ge)))
-]
+low_bits block next low ones b is at h = search (arith, cases_lt, bit_at_ones, lt-ltb, is_zero, pow_pos, bit_at_above, le-ltb)
 
 -- The ones below a place of a word are the number before its power of two.
 pub ones_below : (low : ℕ) → low < 64 → 1 * 2 ^ low % 2 ^ 64 - 1 ≡ 2 ^ low - 1
@@ -518,16 +507,10 @@ module _ (row : List ℕ) (block next below : ℕ) (long : length row ≡ 8) (fr
   open_row = slice_set row 0 (bit_and (slice_index row 0) (2 ^ 64 - 1 - below))
 
   lower_bit : (n : ℕ) → is_set lower n ≡ nat_lt (64 * block + n) next
-  lower_bit n = elim (cases_lt n 64) [
-    | inl lt ↦ search (arith, get_or-set_same)
-    | inr ge ↦ search (arith, get_or-set_other, zero_row, none_of_zero, le-ltb)
-  ]
+  lower_bit n = search (arith, cases_lt, get_or-set_same, get_or-set_other, zero_row, none_of_zero, le-ltb)
 
   open_bit : (n : ℕ) → is_set open_row n ≡ (is_set row n && not (nat_lt (64 * block + n) next))
-  open_bit n = elim (cases_lt n 64) [
-    | inl lt ↦ search (arith, get_or-set_same, bit_cleared)
-    | inr ge ↦ search (arith, get_or-set_other, le-ltb, and-true)
-  ]
+  open_bit n = search (arith, cases_lt, get_or-set_same, bit_cleared, get_or-set_other, le-ltb, and-true)
 
   -- a row all of whose bits are of pages below the next one
   pub within_none : IsWithin row lower → ShowsNone row block next
@@ -545,12 +528,4 @@ module _ (row : List ℕ) (block next below : ℕ) (long : length row ≡ 8) (fr
   -- The lowest number of an open row is the lowest page that it shows.
   pub lowest_shown : (n : ℕ) → IsLowestSet open_row n → IsLowestShown row block next (64 * block + n)
   lowest_shown n lowest =
-      let both = and_parts (is_set row n) (not (nat_lt (64 * block + n) next)) (sym (open_bit n) ∙ lowest.set) in
-      let place : 64 * block + n - 64 * block ≡ n = omega arith in
-      record {
-        from_next = ltb-false _ next (not-true _ both.1);
-        from_block = omega arith;
-        within = search (arith, cases_lt, true≢false, none_past);
-        shown = ap (is_set row) place ∙ both.0;
-        lower = λ p low here high. unshown p low here (lowest.lowest (p - 64 * block) (omega (arith, here, high)));
-      }
+      search (arith, and_parts, open_bit, ltb-false, not-true, cases_lt, true≢false, none_past, unshown)

@@ -5,10 +5,9 @@ use Rattle.pas_bits.specs.Bits.{has_bit}
 use Rattle.pas_profile.specs.{Directories.{number_of, deed_word_of}, Layouts.same_word, Profiles.{IsValid, IsWordOf, IsDirectoryOf}}
 use Rattle.pas_profile.{specs.declared.{directory.Directory.Directory, profile.Profile.Profile, word.Word.Word}, proofs.Codecs.number_lt}
 use Rattle.pas_core.proofs.Nexts.{legal_next, agreed_steps}
-use Rattle.pas_steps.specs.{Agreement.Agreed, Allowed.{Allowed, IsStepOf}, Effects.{target, new_value}, Events.{event_of, events_of, with_event}}
-use Rattle.pas_steps.specs.{Told.{StandsLater, StandsStill, TellsWord}, Views.{View, epoch_of, epoch_after, known_epoch}, Lists.{Whole, Legal, part}}
-use Rattle.pas_steps.specs.{Lists.word_after, Desks.{Standing, AnyView, Adds, CanCall, made, triples}, declared.step.{Made.Made, Step.{Step, TheVariants.Look}}}
-use Rattle.pas_steps.proofs.Parts.{part_of_own}
+use Rattle.pas_steps.specs.{Allowed.{Allowed, IsStepOf}, Effects.{target, new_value}, Events.{event_of, events_of}, Told.{StandsLater, StandsStill, TellsWord}}
+use Rattle.pas_steps.specs.{Views.{View, epoch_after, known_epoch}, Lists.{Whole, Legal, part, word_after}, Desks.{Standing, AnyView, Adds, CanCall, made}}
+use Rattle.pas_steps.{specs.{Desks.triples, declared.step.{Made.Made, Step.{Step, TheVariants.Look}}}, proofs.Parts.part_of_own}
 use Rattle.pas_scan.{proofs.Reading.looks_count, specs.{Rows.looks_from, Scan.deed_looks, Passed.{KnowsDeeds, KnowsOther, NoneIs, PassesDeeds, KnowsHeld}}}
 use Rattle.pas_scan.specs.Passed.{PassesHeld, held_looks}
 
@@ -35,13 +34,7 @@ module _ (f : Profile) (k : ℕ) (l : Whole) (actor : k ≤ f.threads) where
   pub told_step : {value : Word → ℕ} {steps : List Made} → Told f k l value steps → (s : Step) → IsMute s → IsStepOf f s → IsWordOf f (target s)
       → Allowed f (steps ++ part k l) s → Told f k l (after value s) (made s (value (target s)) ∷ steps)
   told_step {value} {steps} told s mute of at allowed =
-      let whole = triples k steps ++ l in record {
-        legal = legal_next f whole k (steps ++ part k l) s (value (target s)) told.legal actor (part_of_own k steps l) of allowed (sym (told.words (target s) at));
-        words = λ w of'. ap (λ n. if same_word (target s) w then new_value (epoch_of (part k whole)) s n else n) (told.words w of')
-            ∙ ap (λ n. if same_word (target s) w then n else value w) (mute.free (epoch_of (part k whole)) (value w));
-        events = ap (λ e. with_event e (events_of k (steps ++ part k l))) (mute.quiet k _ _) ∙ told.events;
-        epoch = mute.blind _ _ ∙ told.epoch;
-      }
+      search (arith, legal_next, part_of_own)
 
   -- Words that are told again, by equal values.
   pub told_as : {value same : Word → ℕ} {steps : List Made} → Told f k l value steps → ((w : Word) → IsWordOf f w → value w ≡ same w) → Told f k l same steps
@@ -73,8 +66,7 @@ looks_told f k l actor value word from zero steps mute of told = told
 looks_told f k l actor value word from (suc n) steps mute of told =
     let before = looks_told f k l actor value word from n steps mute (λ j low high. of j low (omega (arith, high))) told in
     let more = look_told f k l actor before (word (from + n)) (mute (from + n)) (of (from + n) (omega arith) (omega arith)) in
-    subst (λ m. Told f k l value (made (Look (word m)) (value (word (from + n))) ∷ (looks_from word from (values_from value word from n) ++ steps)))
-    (ap (λ m. from + m) (sym (values_many value word from n))) more
+    rw (values_many value word from n) more
 
 -- ---- pages that are passed by
 -- Where no page of some has this deed word, none of the answers is it.
@@ -89,16 +81,7 @@ pub adds_told : (σ σ' : Standing) (value : Word → ℕ) (steps : List Made) �
     → ((v : View) (l : Whole) → σ.stands v l → part σ.seat.actor l ≡ v)
     → ((v : View) (l : Whole) → σ.stands v l → (w : Word) → IsWordOf σ.seat.profile w → word_after l w ≡ value w)
     → ((v : View) (l : Whole) → σ.stands v l → Told σ.seat.profile σ.seat.actor l value steps) → Adds σ σ' AnyView steps
-adds_told σ σ' value steps valid later own same told = record {
-  seat_is = later.seat_is;
-  added = λ v l stood met. let t = told v l stood in later.stands steps refl v l stood (record {
-    legal = t.legal;
-    words = λ w of. t.words w of ∙ sym (same v l stood w of);
-    events = subst (λ x. events_of σ.seat.actor (steps ++ x) ≡ events_of σ.seat.actor x) (own v l stood) t.events;
-    epoch = subst (λ x. known_epoch (steps ++ x) ≡ known_epoch x) (own v l stood) t.epoch;
-  });
-  agreed = λ v l stood met. subst (λ x. Agreed σ.seat.profile x steps) (own v l stood) (agreed_steps σ.seat.profile σ.seat.actor l steps valid (told v l stood).legal);
-}
+adds_told σ σ' value steps valid later own same told = search (arith, agreed_steps)
 
 -- Pages whose deed words the desk knows as others are passed by, by looks that it was told.
 pub passes_told : (tells : Bool) (σ σ' : Standing) → IsValid σ.seat.profile → CanCall σ AnyView → (deed from end n : ℕ) → 1 ≤ from → from + n ≤ end
@@ -138,10 +121,7 @@ passes_no_deeds deed from end σ σ' still = record {
 -- ---- pages of a directory that aren't offered
 -- A look at an eligible word or a deed word is mute.
 mute_looks : (number j page : ℕ) → IsMute (Look (Word.Eligible number j)) × IsMute (Look (Word.Deed page))
-mute_looks number j page = (
-  record { quiet = λ k e a. refl; blind = λ a e. refl; free = λ e old. refl },
-  record { quiet = λ k e a. refl; blind = λ a e. refl; free = λ e old. refl },
-)
+mute_looks number j page = search arith
 
 -- Pages of one block that aren't offered are known, as far as their deed words are.
 pub held_in_block : (tells : Bool) (σ : Standing) (d : Directory) (offered from page stop other : ℕ)

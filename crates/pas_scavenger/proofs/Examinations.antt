@@ -15,7 +15,7 @@ use Rattle.pas_steps.specs.{Allowed.{IsEpochKnown, MayUnback}, Events.events_by,
 use Rattle.pas_steps.specs.{Desks.{Standing, Makes, Adds, CanCall}, Kinds.{LookFree, Taking, Only, Kinds, LookDeed, LookBacked, LookStamp, Claiming, Hinting}}
 use Rattle.pas_steps.specs.{Kinds.{Unbacking, Unhinting, apart, unstamping, within, Putting, returning, showing, LookEmpty, LookEpoch}, Views.{View, Gets}}
 use Rattle.pas_steps.specs.Views.{Stays, held_after, holds, has_right, all_ones, examines, holds_on, holds_all, knows_backed, or_zero, known_epoch, KnowsDeed}
-use Rattle.pas_steps.specs.{Views.{known_deed, ReadBacked}, declared.step.{Made.Made, Step.TheVariants.{TakeRight, Unhint, Look, Hint}}}
+use Rattle.pas_steps.specs.{Views.ReadBacked, declared.step.{Made.Made, Step.TheVariants.{TakeRight, Unhint, Look, Hint}}}
 use Rattle.pas_rights.specs.{Words.{full, ones}, Takes.takes, Leaves.{MayLeave, Leaves}, Puts.{masked, PutsMask}, PutsBack.{MayPutAndReturn, given_back}}
 use Rattle.pas_rights.specs.{Returns.Returned, Claims.Claims, declared.reading.Used.Used, Looks.{AreUsed, looks_until, IsUsed, ReadsUntilUsed}}
 use Rattle.pas_rights.proofs.Orders.{full_set, looks_only, same_page, until_only, until_few, leave_few, return_few, leave_returns, return_returns, ends}
@@ -35,10 +35,7 @@ use Rattle.pas_utility.specs.Outcomes.{pair}
 
 -- The full mask has each grain of the four words.
 pub all_grains : (g : ℕ) → is_set full g ≡ nat_lt (g / 64) 4
-all_grains g = elim (cases_lt g 256) [
-  | inl lt ↦ full_set g lt ∙ sym (lt-ltb _ 4 (omega (arith, lt)))
-  | inr ge ↦ none_past full g refl ge ∙ sym (le-ltb _ 4 (omega (arith, ge)))
-]
+all_grains g = search (arith, cases_lt, full_set, lt-ltb, none_past, le-ltb)
 
 run_below : (word g : ℕ) → in_run 0 (word * 64) g ≡ nat_lt (g / 64) word
 run_below word g = same_truth _ _ (λ h. let at = run_of 0 _ g h in lt-ltb _ word (omega (arith, at.1)))
@@ -48,11 +45,7 @@ run_below word g = same_truth _ _ (λ h. let at = run_of 0 _ g h in lt-ltb _ wor
 pub grains_before : (run : Mask4) (word value : ℕ) → length run.0 ≡ 4 → word < 4 → ((g : ℕ) → is_set run g ≡ in_run 0 (word * 64) g)
     → (g : ℕ) → has_bit (slice_index (slice_set run.0 word value) (g / 64)) (g % 64) ≡ (nat_lt (g / 64) word || ((word == g / 64) && has_bit value (g % 64)))
 grains_before run word value four lt before g =
-    let bit = has_bit value (g % 64) in
-    elim (cases_eq word (g / 64)) [
-      | inl e ↦ search (arith, get_or-set_same, le-ltb, eq-eqb)
-      | inr ne ↦ search (arith, get_or-set_other, run_below, ne_eqb, or-false)
-    ]
+    search (arith, cases_eq, get_or-set_same, le-ltb, eq-eqb, get_or-set_other, run_below, ne_eqb, or-false)
 
 -- ==== Takes of the grains of a page, and what the actor holds and has on the way through one page.
 
@@ -378,17 +371,7 @@ module _ {σ σ1 : Standing} (page : ℕ) (d : Directory) (epoch : ℕ) (used : 
     takes_page p = record {
       steps = p.steps ++ (j.steps ++ takes_until page used);
       calls = call_then (λ v w. HasNothing w) judged_call p.calls (λ v met may. may) (λ v met may rests. rests);
-      order = record {
-        used = used;
-        are = t.are;
-        after = j.steps;
-        judged = subst (λ s. Judged s.profile.age epoch page used outcome j.steps) t.adds.seat_is j.judged;
-        grains = grains;
-        got = got;
-        back = p.steps;
-        puts = p.order;
-        steps_are = refl;
-      };
+      order = search arith;
     }
 
 -- A call that leaves nothing behind, by the steps of an examination, is one.
@@ -456,10 +439,7 @@ module _ {σ σ1 : Standing} (page epoch b : ℕ) (some : b ≢ 0) (first : Make
       known : Calls σ σ3 (MayExamine page epoch) (λ v w. MayExamine page epoch w
           × KnowsDeed page d w) (made (Look (Word.Deed page)) (deed_word_of d) ∷ first_looks page b None)
       known =
-          let look = made (Look (Word.Deed page)) (deed_word_of d) ∷ [] in
-          let c : Calls σ2 σ3 (IsSeen page epoch) (λ v w. MayExamine page epoch w × KnowsDeed page d w) look
-          = call_by r.adds (λ v met. tt) (λ v is agreed. (still page epoch look v (refl, tt) is.0, ap (λ t. if t then deed_word_of d else known_deed v page) (same_page page))) in
-          call_then (λ v w. MayExamine page epoch w × KnowsDeed page d w) seen c (λ v met is. is) (λ v met is r. r)
+          search (arith, call_by, same_page, call_then, seen)
 
       -- A page whose directory was read may be claimed.
       pub can_claim : CanCall σ (MayExamine page epoch) → CanCall σ3 (KnowsDeed page d)
@@ -511,8 +491,7 @@ pub used_by_others : (age epoch page word value : ℕ) (steps : List Made) → E
     → (value ≢ all_ones) × Once (UsedByOthers page word value) steps
 used_by_others age epoch page word value steps (inl h) = let b = made (Look (Word.Backed page)) h.0 ∷ [] in (
   h.2.some,
-  subst (Once (UsedByOthers page word value)) (sym h.3)
-      (inl (ReadsFree.Looks, refl, λ g at here. holds_same (LookFree ∷ []) refl g _ b (looks_only page ones word))),
+  rw h.3 (inl (ReadsFree.Looks, refl, λ g at here. holds_same (LookFree ∷ []) refl g _ b (looks_only page ones word))),
 )
 used_by_others age epoch page word value steps (inr h) =
     let t = h.takes in
@@ -533,13 +512,7 @@ unbacked_when_old age epoch page steps (inl h) = absurd h
 unbacked_when_old age epoch page steps (inr h) =
     let t = h.takes in let j = t.judged in
     let are = taken_on age epoch page Unbacked steps h ∙ ap (λ s. t.back ++ (s ++ (takes_until page t.used ++ h.asked))) j.6 in
-    subst (Once (UnbackedHere age epoch page)) (sym are) (once_later _ t.back _ (inl (
-      refl,
-      λ g at.
-          until_holds page t.used g h.asked (asks_none page h.directory h.asked h.asks g)
-          ∙ and_from _ _ (eq-eqb page _ (sym at)) (ap (λ u. was_free u (g % 256)) j.3 ∙ lt-ltb _ 4 (omega arith)),
-      inl (refl, j.5),
-    )))
+    search (arith, once_later, until_holds, asks_none, and_from, eq-eqb, lt-ltb)
 
 -- ==== Tries of pages, one after the other, and the whole pass.
 

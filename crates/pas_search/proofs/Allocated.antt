@@ -1,21 +1,20 @@
 -- A block is given of the run that a search found, and then the page is left.
-use Rattle.std.proofs.Common.{◌≡◌, ℕ, ◌+◌, ◌*◌, ◌/◌, ◌%◌, ◌^◌, ◌<◌, ◌≤◌, ◌==◌, Bool, true, false, ◌&&◌, if◌then◌else◌, List, [], ◌++◌, length, Some, None}
-use Rattle.std.proofs.Common.{Result, Ok, Err, MatchResult, refl, ap, sym, ◌∙◌, subst, arith, inl, inr, ◌⊎◌, append_assoc, length-append, true≢false, eq-eqb}
-use Rattle.std.proofs.{Common.eqb-true, lemmas.Bool.{and_parts, and_from}}
+use Rattle.std.proofs.Common.{◌≡◌, ℕ, ◌+◌, ◌*◌, ◌/◌, ◌%◌, ◌^◌, ◌<◌, ◌≤◌, ◌==◌, Bool, true, false, ◌&&◌, List, [], ◌++◌, length, Some, None, Result, Ok, Err}
+use Rattle.std.proofs.{Common.{refl, ap, sym, ◌∙◌, subst, arith, inl, inr, append_assoc, length-append, true≢false, eq-eqb, eqb-true}, lemmas.Bool.and_parts}
+use Rattle.std.proofs.lemmas.Bool.{and_from}
 use Rattle.pas_profile.specs.{Profiles.{IsDirectoryOf, IsValid}, Blocks.{address_of, grain_of, length_of}, declared.directory.Directory.Directory}
 use Rattle.pas_profile.specs.declared.{event.NoRoom.NoRoom, name.Block.Block, profile.Profile.Profile}
 use Rattle.pas_bits.{specs.Runs.in_run, proofs.Runs.to_run}
 use Rattle.pas_rights.{specs.{Gives.{MayGive, block_of, give_steps, GaveRun, GivesRun}, Leaves.{MayLeave, Leaves}}, proofs.Gives.{may_give_on, covers}}
-use Rattle.pas_steps.specs.{Calls.{Calls, Kept, Gained, Lost, now, later, Does}, Desks.{Seat, Standing, Adds, CanCall, triples}, Unknown.HasRoom}
-use Rattle.pas_steps.specs.{Events.{events_of, events_by}, Kinds.returning, Views.{View, holds, KnowsDeed}, Evidence.IsAntitone, Lists.{Whole, part, Legal}}
-use Rattle.pas_steps.{specs.declared.step.Made.Made, proofs.{Adding.room_left, Apart.events_same, Calls.{does_as, does_then, returns_are}, Frames.events_split}}
-use Rattle.pas_steps.proofs.{Sets.same_truth, SpareRoom.Spares, Called.{call_as, call_knows, call_then, next_call}}
-use Rattle.pas_search.specs.{Kinds.deeds_made, Serving.right_of, Telling.{IsLowestOffered, IsLowestBare, IsTold}, ByRank.AllocatesByRank}
-use Rattle.pas_search.specs.{Alone.FindsWhatThereIs, Choices.Choice, Placements.{Placement, IsPlacement, IsFit, placed, by_run, placing}, Searches.MaySearch}
-use Rattle.pas_search.specs.{Searches.{SearchRoom, FromOffered, ByDeed, Finds, IsRefused, search_steps, Searches}, Ranks.{Measure, RankRoom, TriesBest}}
-use Rattle.pas_search.specs.{Ranks.{FromSurvey, IsBestOffered}, declared.{serving.Served.Served, placing.Run.Run}, Allocates.{GaveBlock, GivesFound, IsGiven}}
-use Rattle.pas_search.{specs.Allocates.AllocatesRun, proofs.TheBestPage.{falls_back, adds_then, stood_then, KeepsNew, finds_call, finds_as, left_after}}
-use Rattle.pas_search.proofs.{Pages.placed_fits, FindingAPage.{IsFoundOrRefused, found_before}}
+use Rattle.pas_steps.specs.{Calls.{Calls, Gained, now, Does}, Desks.{Seat, Standing, Adds, CanCall, triples}, Unknown.HasRoom, Events.{events_of, events_by}}
+use Rattle.pas_steps.specs.{Kinds.returning, Views.{View, holds, KnowsDeed}, Evidence.IsAntitone, Lists.{Whole, part, Legal}, declared.step.Made.Made}
+use Rattle.pas_steps.proofs.{Adding.room_left, Apart.events_same, Calls.{does_as, does_then, returns_are}, Frames.events_split, Sets.same_truth}
+use Rattle.pas_steps.proofs.{SpareRoom.Spares, Called.{call_as, call_knows, call_then, next_call}}
+use Rattle.pas_search.specs.{Kinds.deeds_made, Serving.right_of, ByRank.AllocatesByRank, Alone.FindsWhatThereIs, Choices.Choice, Placements.Placement}
+use Rattle.pas_search.specs.{Placements.{IsPlacement, IsFit, placed, by_run, placing}, Searches.{MaySearch, SearchRoom, Finds, search_steps, Searches}}
+use Rattle.pas_search.specs.{Ranks.{Measure, RankRoom, TriesBest, FromSurvey}, declared.{serving.Served.Served, placing.Run.Run}, Allocates.GaveBlock}
+use Rattle.pas_search.{specs.Allocates.{GivesFound, AllocatesRun}, proofs.TheBestPage.{falls_back, adds_then, stood_then, KeepsNew, finds_call, finds_as}}
+use Rattle.pas_search.proofs.{TheBestPage.left_after, Pages.placed_fits, FindingAPage.found_before}
 
 room_for_one : (f : Profile) (spare : ℕ) (v : View) → HasRoom f 2 spare v → HasRoom f 1 spare v
 room_for_one f spare v room = (omega (arith, room.0), elim room.1 [ inl all ↦ inl all | inr more ↦ inr (omega (arith, more)) ])
@@ -72,10 +71,7 @@ module _ (p : Placement) (is : IsPlacement p) (asked : p.asked) (d : Directory) 
       = ap length (events_split k xs can.view) ∙ length-append (events_by k can.view xs) (events_of k can.view) in
       let few = finds.few k can.view (adds.agreed can.view can.whole can.stood can.met.may) in
       let two : 2 ≤ spare = can.met.room.0 in
-      let fits : length (events_by k can.view xs) + 1 ≤ spare = elim can.met.room.1 [
-        | inl all ↦ let most = few.1 all in omega (arith, most, two)
-        | inr three ↦ omega (arith, few.0, made, three)
-      ] in
+      let fits : length (events_by k can.view xs) + 1 ≤ spare = search (arith, few.1) in
       room_left {spare = spare1} 1 adds (may_search can) law' (omega (arith, now, split, fits))
 
   module _ {σ2 : Standing} (block : Block) (gives : GivesRun d.heap served.page served.found.first served.found.grains block σ1 σ2) where
@@ -93,15 +89,8 @@ module _ (p : Placement) (is : IsPlacement p) (asked : p.asked) (d : Directory) 
 
     gave_call : Calls σ σ2 (MaySearch d) (λ v w. Gave v w × KnowsDeed page d w) (given ++ xs)
     gave_call = call_then (λ v w. Gave v w × KnowsDeed page d w) new_call give_call
-        (λ v met kept. ((search (arith, may_give_on, is_run, in_region)), kept.found.deed)) (λ v met kept gave. (
-          record {
-            does = does_as (right_of page Gained) (does_then kept.found.keeps.does gave.0.does)
-                (λ g. (search (arith, true≢false, in_region g))) (λ q. refl) (λ q h. h);
-            apart = λ g inside. kept.apart g (in_region g ∙ sym (covers d.heap page first n gives.word block gives.block_is g) ∙ inside);
-            turn = gave.0.turn;
-          },
-          gave.1,
-        ))
+        (λ v met kept. ((search (arith, may_give_on, is_run, in_region)), kept.found.deed))
+        (λ v met kept gave. search (arith, does_as, does_then, true≢false, in_region, covers, kept.apart))
 
     may_leave : (v : View) → MaySearch d v → Gave v ((given ++ xs) ++ v) × KnowsDeed page d ((given ++ xs) ++ v) → MayLeave page d ((given ++ xs) ++ v)
     may_leave v met gave = search (arith, eq-eqb)
@@ -116,12 +105,8 @@ module _ (p : Placement) (is : IsPlacement p) (asked : p.asked) (d : Directory) 
 
       whole_call : Calls σ σ3 (MaySearch d) (GaveBlock page d block) (after ++ xs)
       whole_call = subst (Calls σ σ3 (MaySearch d) (GaveBlock page d block)) (sym (append_assoc left.steps given xs))
-          (call_then (GaveBlock page d block) gave_call (call_knows page d left.calls (λ v may. may.deed)) may_leave (λ v met gave b. record {
-            does = left_after (λ g. Kept) page gave.0.does b.0.does;
-            apart = gave.0.apart;
-            deed = b.1;
-            turn = gave.0.turn;
-          }))
+          (call_then (GaveBlock page d block) gave_call (call_knows page d left.calls (λ v may. may.deed)) may_leave
+          (λ v met gave b. search (arith, left_after)))
 
       page_is : address_of block.name / 4096 ≡ served.page
       page_is = ap (λ (b : Block). address_of b.name / 4096) gives.block_is ∙ omega (arith, is_run.within, is_run.some)

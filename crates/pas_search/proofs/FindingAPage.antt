@@ -112,10 +112,7 @@ lowest_offered no_fit f k l d page xs valid of fewer is legal lends may from fit
 -- the call never had the page's right, or it has it, or it had it once
 lacked_or_had : (p : ℕ) (xs : List Made) → Always (LacksAfter p) xs ⊎ ((has_right xs p ≡ true) ⊎ Once (KeptHere p) xs)
 lacked_or_had p [] = inl tt
-lacked_or_had p (m ∷ xs) = elim (cases_Bool (has_right (m ∷ xs) p)) [
-  | inl has ↦ inr (inl has)
-  | inr none ↦ elim (lacked_or_had p xs) [ inl lacked ↦ inl (none, lacked) | inr (inl has) ↦ inr (inr (inl has)) | inr (inr once) ↦ inr (inr (inr once)) ]
-]
+lacked_or_had p (m ∷ xs) = search (arith, cases_Bool, (lacked_or_had p xs))
 
 -- what the actor knows of the deed is the word at exit
 pub known_exit : (f : Profile) (k : ℕ) (l : Whole) (xs : List Made) → Legal f (triples k xs ++ l) → (p : ℕ) → known_deed (xs ++ part k l) p ≢ 0
@@ -154,12 +151,7 @@ module _ (f : Profile) (k : ℕ) (l : Whole) (d : Directory) (xs : List Made) (v
       let deed = sym (known_exit f k l xs legal p (λ z. deed_word_of-positive d (sym known ∙ z))) ∙ known in
       let none = entry_lacks f k l d p xs valid (legal_before f k xs l legal) (may p) deed in
       let spot = spot_same f k l p xs legal none lacked in
-      record {
-        of_region = here;
-        of_directory = deed;
-        not_offered = at.eligible (number_of d) ∙ (ap (is_offered (number_of d)) spot ∙ zero_told f k l d p xs legal none lacked zero_read);
-        not_parked = at.parked ∙ (ap is_parked spot ∙ parked_told f k l p false xs legal none lacked parked);
-      }
+      search (arith, is_offered, zero_told, is_parked, parked_told, at.eligible)
 
 module _ {F : Type 0} (rule : Rule F) (f : Profile) (k : ℕ) (l : Whole) (d : Directory) (xs : List Made) (valid : IsValid f) (of : IsDirectoryOf f d)
     (fewer : IsAntitone rule.no_fit)
@@ -198,10 +190,7 @@ module _ {F : Type 0} (rule : Rule F) (f : Profile) (k : ℕ) (l : Whole) (d : D
   held_in_hands : (room : NoRoom) → IsRefused rule.no_fit f d xs room → (p : ℕ) → IsHeld f d xs p → IsInHands f d w p
   held_in_hands room is p held =
       held_there f k l d xs valid of legal may.rights p held.page_of (held.of_directory (part k l) agreed) held.lacked
-      (elim (is.searched p held.page_of.0 (omega (arith, held.page_of.1))) [
-        | inl u ↦ absurd (unfit_lacks rule.no_fit p xs u held.lacked)
-        | inr z ↦ z.1
-      ]) (once_map (HeldHere d p) (ParkedHere false p) xs (λ m before h. h.0) held.held)
+      (search (arith, unfit_lacks, is.searched)) (once_map (HeldHere d p) (ParkedHere false p) xs (λ m before h. h.0) held.held)
 
   -- The reason of a refusal is true of the state at exit.
   reason : (room : NoRoom) → IsRefused rule.no_fit f d xs room → IsTrueReason f d w room

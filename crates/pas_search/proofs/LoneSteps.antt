@@ -4,12 +4,11 @@ use Rattle.std.proofs.{Common.{refl, ap, sym, ◌∙◌, arith, subst, true≢fa
 use Rattle.pas_bits.{specs.Bits.has_bit, proofs.PageVectors.{page_bit-set, page_bit-clear}}
 use Rattle.pas_profile.specs.{Directories.{number_of, deed_word_of}, Layouts.same_word, declared.{directory.Directory.Directory, profile.Profile.Profile}}
 use Rattle.pas_profile.{specs.declared.word.Word.Word, proofs.Codecs.deed_word_of-positive}
-use Rattle.pas_steps.specs.{Desks.triples, Past.{Once, Always}, Kinds.{kind_of, is_in, lending}, Effects.{target, new_value, in_mask, free_word_at}}
-use Rattle.pas_steps.specs.{Evidence.{Readings, ReadsFree, ShowsHere, NoDeedHere, GetsRight, GetsHere}, Lists.{Whole, part, word_after, Legal}, Views.epoch_of}
-use Rattle.pas_steps.specs.{Views.{grain_move, held_after, holds}, declared.step.{Made.Made, Step.{Step, TheVariants.{Look, TakeRight, Offer, Deed, Take}}}}
-use Rattle.pas_steps.specs.declared.step.Step.TheVariants.{Put}
-use Rattle.pas_core.{specs.Rights.{eligible_bit, free_of_page}, proofs.{Deeds.{looked, deed_kept}, Grains.{free_moved, free_step}, OneActor.LendsNone}}
-use Rattle.pas_core.proofs.OneActor.{bit_of, free_or_held, shown, of_page, deed_read, deed_none, deed_later}
+use Rattle.pas_steps.specs.{Desks.triples, Past.{Once, Always}, Effects.{target, new_value}, Evidence.{Readings, ReadsFree, ShowsHere, NoDeedHere, GetsRight}}
+use Rattle.pas_steps.specs.{Evidence.GetsHere, Lists.{Whole, part, word_after, Legal}, Views.{epoch_of, holds}, declared.step.{Made.Made, Step.Step}}
+use Rattle.pas_steps.specs.declared.step.Step.TheVariants.{Look, TakeRight, Offer, Deed}
+use Rattle.pas_core.{specs.Rights.{eligible_bit, free_of_page}, proofs.{Deeds.{looked, deed_kept}, Grains.free_step, OneActor.{LendsNone, bit_of}}}
+use Rattle.pas_core.proofs.OneActor.{free_or_held, shown, of_page, deed_read, deed_none, deed_later}
 use Rattle.pas_scan.specs.Usable.{OfHere, WholeHere, UsedHere, MakesNoDeedHere}
 use Rattle.pas_search.specs.{Alone.IsLone, Kinds.{IsReturnOf, ReturnsDuly}}
 
@@ -25,16 +24,13 @@ once_lone P C f k l step (m ∷ xs) lone (inl here) = step m xs lone here
 once_lone P C f k l step (m ∷ xs) lone (inr h) = once_lone P C f k l step xs (fewer lone) h
 
 -- ---- GRAINS: one that isn't free stays so, since the steps put only what they took, and took only what was free
-mask_word : (page word mask g : ℕ) → in_mask page word mask g ≡ true → Word.Free page word ≡ free_word_at g
-mask_word page word mask g h = search (arith, eqb-true, false≢true)
-
 module _ (f : Profile) (k : ℕ) (l : Whole) where
   -- A grain that isn't free stays so, and isn't got, by steps that give and end no block and put back only what they took.
   pub stays_used : (g : ℕ) (xs : List Made) → Legal f (triples k xs ++ l) → LendsNone xs → Always ReturnsDuly xs → bit_of l g ≡ false
       → (bit_of (triples k xs ++ l) g ≡ false) × (holds xs g ≡ false)
   stays_used g [] legal lends due used = (used, refl)
   stays_used g (m ∷ xs) legal lends due used =
-      let rest = stays_used g xs legal.1 lends.1 due.1 used in grind (arith, rest, true≢false, mask_word, free_step)
+      let rest = stays_used g xs legal.1 lends.1 due.1 used in grind (arith, rest, true≢false, eqb-true, false≢true, free_step)
 
   -- A grain is free after such steps, or taken by them, exactly where it was free before them.
   pub free_same : (g : ℕ) (xs : List Made) → IsLone f k l xs → (bit_of (triples k xs ++ l) g || holds xs g) ≡ bit_of l g
@@ -104,8 +100,7 @@ offer_one e s n p old h = inl h
 -- A right that was got without a deed was that of an offered page.
 got_by : (p : ℕ) (w : Whole) (s : Step) (a : ℕ) → a ≡ word_after w (target s) → ((x : Directory) → s ≡ Deed p x → a ≡ 0 → ⊥) → GetsRight p s a
     → (n : ℕ) × (eligible_bit w n p ≡ true)
-got_by p w s a answer never (GetsRight.Claims x b set) = (number_of x, ap (λ (n : ℕ). has_bit n (p % 64)) (sym answer) ∙ set)
-got_by p w s a answer never (GetsRight.Deeds x b zero) = absurd (never x refl zero)
+got_by p w s a answer never got = search arith
 
 -- A page without a deed made here was offered before the search if the search got it, or if it is offered afterwards.
 pub was_offered_before : (f : Profile) (k : ℕ) (l : Whole) (p : ℕ) (xs : List Made) → Legal f (triples k xs ++ l) → Always ReturnsDuly xs

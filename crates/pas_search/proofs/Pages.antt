@@ -3,23 +3,23 @@
 use Rattle.std.proofs.Common.{◌≡◌, ℕ, ◌+◌, ◌*◌, ◌/◌, ◌%◌, ◌<◌, ◌≤◌, ◌==◌, Bool, true, false, ◌&&◌, if◌then◌else◌, List, [], ◌∷◌, ◌++◌, length, None, Some, refl}
 use Rattle.std.proofs.{Common.{ap, sym, ◌∙◌, subst, arith, inl, inr, append_assoc, length-append, eq-eqb, eqb-true, true≢false}, lemmas.Bool.and_from}
 use Rattle.std.proofs.lemmas.Bool.{and_right, cond_both, and_parts}
-use Rattle.pas_profile.{specs.{Profiles.IsPage, declared.{directory.Directory.Directory, event.Event.Event}}, proofs.Codecs.deed_word_of-positive}
+use Rattle.pas_profile.{specs.{Profiles.IsPage, declared.directory.Directory.Directory}, proofs.Codecs.deed_word_of-positive}
 use Rattle.pas_rights.specs.{Leaves.{MayLeave, Leaves}, PutsBack.{taking_grains, GivesDuly}, Looks.{looks, ReadsPage}, Puts.masked, Words.words, Takes.taken}
 use Rattle.pas_rights.{specs.Takes.{HasRight, takes, TakesMask}, proofs.Orders.{leave_lacks, looks_only, looks_on, looks_held, looks_free, looks_know}}
 use Rattle.pas_rights.proofs.{Orders.{looks_read, bit_of, bit_on, keeps_by, since_kept}, Puts.{due_both, leave_due, due_none, MayTakeAll, takes_always}}
 use Rattle.pas_rights.proofs.Puts.{takes_only, takes_on, takes_keep, takes_few, takes_known}
 use Rattle.pas_steps.specs.{Agreement.Agreed, Allowed.Allowed, Events.{with_event, events_by}, Past.{Once, Always, Since}, Frames.{IsOnPage, OnlyOn}}
-use Rattle.pas_steps.specs.{Frames.{KeepsRight, GivesUp}, Evidence.{ShowsHere, KeptHere, GetsHere, Readings, UnfitHere}, Views.{View, has_right, known_free}}
-use Rattle.pas_steps.specs.{Views.{holds, KnowsDeed}, Calls.{Calls, Leads, Kept, Gained, Lost, now, ClearAfter, Does, nothing}, Desks.{Standing, CanCall, made}}
-use Rattle.pas_steps.specs.{Desks.{Makes, CanMake}, Kinds.{Backing, Only, kind_of, is_in, Kinds, LookFree, Taking}, declared.step.Made.Made}
-use Rattle.pas_steps.{specs.declared.step.Step.TheVariants.Back, proofs.{Adding.{agreed_later, adds_under}, Frames.{any_from, returns_on, rights_stay}}}
-use Rattle.pas_steps.proofs.{Sets.kept_kept, Called.{call_then, next_call, call_knows, call_step, next_step}, Calls.{does_after_nothing, does_as, does_idly}}
-use Rattle.pas_steps.proofs.{Calls.{does_then, returns_are, kept_first}, Past.{always_both, always_map, once_later, since_once}, Apart.{in_apart, only_within}}
-use Rattle.pas_steps.proofs.Apart.{only_both, holds_same, no_event, no_events, rights_same}
+use Rattle.pas_steps.specs.{Frames.KeepsRight, Evidence.{ShowsHere, KeptHere, GetsHere, Readings, UnfitHere}, Views.{View, has_right, known_free, holds}}
+use Rattle.pas_steps.specs.{Views.KnowsDeed, Calls.{Calls, Leads, Kept, Gained, Lost, ClearAfter, Does, nothing}, Desks.{Standing, CanCall, made, Makes}}
+use Rattle.pas_steps.specs.{Desks.CanMake, Kinds.{Backing, Only, kind_of, is_in, Kinds, LookFree, Taking}, declared.step.{Made.Made, Step.TheVariants.Back}}
+use Rattle.pas_steps.proofs.{Adding.{agreed_later, adds_under}, Frames.{any_from, returns_on, rights_stay}, Sets.kept_kept, Called.{call_then, next_call}}
+use Rattle.pas_steps.proofs.{Called.{call_knows, call_step, next_step}, Calls.{does_after_nothing, does_as, does_idly, does_then, returns_are, kept_first}}
+use Rattle.pas_steps.proofs.{Past.{always_both, always_map, once_later, since_once}, Apart.{in_apart, only_within, only_both, holds_same, no_event, no_events}}
+use Rattle.pas_steps.proofs.Apart.{rights_same}
 use Rattle.pas_search.specs.{Kinds.{serving, KeepsMarks, AreQuiet}, Serving.{Rule, MayServe, HoldsNone, GotBefore, right_of, Keeps, ReadsNoneHeld, ServeSteps}}
 use Rattle.pas_search.specs.{Serving.{ServesPage, IsJustGot}, Choices.{Choice, IsUnfit, IsChosen, TakesKept, choosing}, Placements.{Placement, IsPlacement}}
 use Rattle.pas_search.{specs.{Placements.{IsPlaced, IsFit, by_run}, declared.placing.Run.Run}, proofs.{ForBackEnds.unfit_left, PagesThatServe.keeps_marks}}
-use Rattle.pas_bits.{specs.{declared.mask.Mask4.Mask4, Bits.has_bit, Masks.is_set, Runs.in_run}, proofs.{Words.at_word, Runs.{run_of, first_of_run}}}
+use Rattle.pas_bits.{specs.{declared.mask.Mask4.Mask4, Bits.has_bit, Masks.is_set, Runs.in_run}, proofs.{Words.at_word, Runs.first_of_run}}
 
 -- Takes and puts of grains make no event.
 pub quiet_by : (steps : List Made) → Only taking_grains steps → AreQuiet steps
@@ -287,10 +287,4 @@ module _ (p : Placement) (is : IsPlacement p) (asked : p.asked) where
 
     pub run_chosen : (run : Run) (grains : Mask4) → IsPlaced p (is_set free) run → ((g : ℕ) → is_set grains g ≡ in_run run.first run.grains g)
         → IsChosen (by_run p) (is_set free) run grains
-    run_chosen run grains so are = let fit = placed_fits (is_set free) run so in record {
-      chosen = so;
-      fits = fit.fits;
-      within = λ b lt kept. let at = run_of run.first run.grains b kept in fit.free b at.0 at.1;
-      some = (run.first, omega (arith, fit.some, fit.within), first_of_run run.first run.grains (omega (arith, fit.some)));
-      exactly = λ b lt. are b;
-    }
+    run_chosen run grains so are = let fit = placed_fits (is_set free) run so in search (arith, first_of_run, fit.free)

@@ -6,18 +6,18 @@ use Rattle.pas_rights.{specs.{Puts.PutsHere, PutsBack.GivesDuly}, proofs.Puts.{g
 use Rattle.pas_steps.specs.Evidence.{GetsHere, GetsRight, LacksAfter, ZeroHere, OneHere, UnfitHere, Searched, ReadsEligible, ReadsDeed, DeedHere, AllDeeds}
 use Rattle.pas_steps.specs.{Frames.{IsOnPage, OnlyOn, IsRead, OnlyReads, OnlyScans}, Past.{Once, Always}, Events.{events_by, event_of, events_of}}
 use Rattle.pas_steps.specs.{Agreement.{Agrees, Agreed}, Clear.IsClear, Lists.Whole, Kinds.{Kinds, Offering, Parking, Unparking, Hinting, kind_of, place_of}}
-use Rattle.pas_steps.specs.{Kinds.{is_in, apart, Only, look_kind, unbacking, Deeding}, declared.step.{Made.Made, Step.{Step, TheVariants.{Unpark, Deed, Look}}}}
-use Rattle.pas_steps.specs.{declared.step.Step.TheVariants.TakeRight, Views.{View, has_right, Way, Stays, Puts, grain_move, held_after, holds, KnowsDeed}}
-use Rattle.pas_steps.specs.{Views.{known_free, epoch_of}, Desks.{made, Seat, Standing, AnyView, Adds, CanCall, Makes}, Calls.{Leads, Fate, Kept, Gained, Lost}}
-use Rattle.pas_steps.{specs.Calls.{now, nothing, ClearAfter, Does, grain_fate, way_fate, right_fate, opens, later}, proofs.Apart.{in_apart, only_within}}
-use Rattle.pas_steps.proofs.{Apart.{only_both, same_over}, Past.{always_both, always_map, always_pair, once_earlier, once_later}, Calls.{does_none, does_then}}
-use Rattle.pas_steps.proofs.{Calls.{does_as, does_step, right_is, leads_then, does_after_nothing, kept_first, leads_as}, Frames.{events_append, right_own}}
-use Rattle.pas_steps.proofs.{Frames.{with_few, right_on, holds_on_page, knows_still, scans_look, looks_read}, Sets.got_lost, Adding.{adds_call, can_call}}
-use Rattle.pas_steps.proofs.{Adding.{agreed_first, agreed_later, adds_step}, Evidence.{zero_before, deed_known, deed_before, unknown}}
+use Rattle.pas_steps.specs.{Kinds.{is_in, apart, Only, unbacking, Deeding}, declared.step.{Made.Made, Step.{Step, TheVariants.{Unpark, Deed, Look, TakeRight}}}}
+use Rattle.pas_steps.specs.{Views.{View, has_right, Stays, Puts, grain_move, held_after, holds, KnowsDeed, known_free, epoch_of}, Desks.{made, Seat, Standing}}
+use Rattle.pas_steps.specs.{Desks.{AnyView, Adds, CanCall, Makes}, Calls.{Leads, Fate, Kept, Gained, Lost, now, nothing, ClearAfter, Does, grain_fate}}
+use Rattle.pas_steps.{specs.Calls.{right_fate, opens}, proofs.{Apart.{in_apart, only_within, only_both, same_over}, Past.{always_both, always_map}}}
+use Rattle.pas_steps.proofs.{Past.{always_pair, once_earlier, once_later}, Calls.{does_none, does_then, does_as, does_step, right_is, leads_then}}
+use Rattle.pas_steps.proofs.{Calls.{does_after_nothing, kept_first, leads_as}, Frames.{events_append, right_own, with_few, right_on, holds_on_page}}
+use Rattle.pas_steps.proofs.{Frames.{knows_still, scans_look, looks_read}, Sets.got_lost, Adding.{adds_call, can_call, agreed_first, agreed_later, adds_step}}
+use Rattle.pas_steps.proofs.Evidence.{zero_before, deed_known, deed_before, unknown}
 use Rattle.pas_search.specs.Kinds.{IsReturnOf, ReturnsDuly, KeepsMarks, serving, searching, OnlyServes, AreSearch, IsQuiet, AreQuiet, IsDeedOrBack, EventsAt}
 use Rattle.pas_search.specs.{Kinds.{makes_deed, deeds_made}, Serving.{righted, IsUntouched, Rule, MayServe, GotBefore, right_of, served, Keeps, ReadsNoneHeld}}
-use Rattle.pas_search.specs.{Serving.{ServeSteps, ServesPage}, Searches.{offered_steps, OfferedHere, Searching, MaySearch, FromOffered, KeepsFound, FewEvents}}
-use Rattle.pas_search.{specs.Searches.{Finds, GoesOn, SearchesOffered, BareRoom, SearchesBare}, proofs.ForBackEnds.{events_quiet, room_after, room_kept}}
+use Rattle.pas_search.specs.{Serving.{ServeSteps, ServesPage}, Searches.{offered_steps, OfferedHere, Searching, MaySearch, FromOffered, FewEvents, Finds}}
+use Rattle.pas_search.{specs.Searches.{GoesOn, SearchesOffered, BareRoom, SearchesBare}, proofs.ForBackEnds.{events_quiet, room_after, room_kept}}
 use Rattle.pas_profile.specs.{declared.{directory.Directory.Directory, event.Event.Event, profile.Profile.Profile, word.Word.Word}, Profiles.IsPage}
 use Rattle.pas_bits.specs.Bits.{has_bit}
 use Rattle.pas_scan.specs.{Marks.is_marked, Rows.{row_end, row_words, words_to}, Scan.{IsFirstOffered, FindsOffered, FindsBare}}

@@ -1,12 +1,12 @@
 -- A placement passes pages by that are short of its least run: the steps of its back end on such a page are known beforehand.
-use Rattle.std.proofs.Common.{◌≡◌, ℕ, zero, suc, ◌+◌, ◌<◌, ◌≤◌, Bool, true, false, not, ◌⊎◌, inl, inr, List, ◌∷◌, ◌++◌, None, Some, Option, MatchOption, refl}
-use Rattle.std.proofs.{Common.{ap, sym, ◌∙◌, subst, arith}, lemmas.Bool.{cases_Bool, cases_eq, not-true, not-false}}
-use Rattle.pas_bits.specs.{declared.mask.Mask4.Mask4, Masks.is_set}
+use Rattle.std.proofs.Common.{◌≡◌, ℕ, zero, suc, ◌<◌, Bool, true, false, not, inl, inr, List, Option, MatchOption, refl, ap, ◌∙◌, arith}
+use Rattle.std.proofs.lemmas.Bool.{cases_Bool, cases_eq, not-true, not-false}
+use Rattle.pas_bits.specs.Masks.{is_set}
 use Rattle.pas_profile.specs.declared.{directory.Directory.Directory, profile.Profile.Profile}
 use Rattle.pas_rights.{specs.{Looks.looks, Words.words}, proofs.Orders.leaves_offered}
 use Rattle.pas_steps.specs.{Desks.{Standing, Adds}, Views.{View, usable_by_kind}, declared.step.Made.Made}
-use Rattle.pas_search.specs.{Passing.PassesBy, Serving.ServeSteps, Placements.{IsLeastRun, IsPlacement, Placement, by_run, placing}}
-use Rattle.pas_search.{specs.declared.placing.LeastRun.LeastRun, proofs.Pages.{leaves_steps, unfit}}
+use Rattle.pas_search.specs.{Passing.PassesBy, Placements.{IsLeastRun, IsPlacement, Placement, by_run, placing}, declared.placing.LeastRun.LeastRun}
+use Rattle.pas_search.proofs.Pages.{leaves_steps, unfit}
 
 -- a number below n passes the test, if not all of them fail it
 some_below : (n : ℕ) (test : ℕ → Bool) → (((g : ℕ) → g < n → test g ≡ false) → ⊥) → (g : ℕ) × (g < n) × (test g ≡ true)
@@ -39,5 +39,4 @@ module _ (p : Placement) (is : IsPlacement p) (asked : p.asked) (d : Directory) 
 
   -- So does one that says its least run, if any.
   pub passes_where : (o : Option LeastRun) → MatchOption o (Unit {0}) (IsLeastRun p) → MatchOption o (Unit {0}) (PassesBy (placing p) d)
-  passes_where None none = none
-  passes_where (Some run) least = passes_by run least
+  passes_where found is = search (arith, passes_by)

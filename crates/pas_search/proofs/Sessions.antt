@@ -1,9 +1,9 @@
 -- What an actor that has nothing may ask, and what a request leaves for the next one.
-use Rattle.std.proofs.Common.{◌≡◌, ℕ, ◌+◌, ◌≤◌, ◌==◌, ◌⊎◌, ◌++◌, length, Bool, false, Result, if◌then◌else◌, refl, ◌∙◌, arith}
+use Rattle.std.proofs.Common.{ℕ, ◌+◌, ◌≤◌, ◌++◌, length, Bool, Result, refl, ◌∙◌, arith}
 use Rattle.pas_profile.specs.{Profiles.{IsDirectoryOf, IsValid}, declared.{directory.{Directory.Directory, Kind.TheVariants.Bitfit}, event.NoRoom.NoRoom}}
 use Rattle.pas_profile.specs.declared.{name.Block.Block, profile.Profile.Profile}
-use Rattle.pas_steps.specs.{Agreement.Agreed, Clear.HasNothing, Desks.{Standing, CanCall}, Events.events_by, Views.{View, has_right}, Calls.{Kept, Lost, now}}
-use Rattle.pas_steps.{specs.Calls.Does, proofs.{Adding.{adds_under, agreed_later}, Nothing.{can_go_on, nothing_still}, SpareRoom.{Spares, spare_falls}}}
+use Rattle.pas_steps.specs.{Agreement.Agreed, Clear.HasNothing, Desks.{Standing, CanCall}, Events.events_by, Views.View, Calls.{Lost, Does}}
+use Rattle.pas_steps.proofs.{Adding.{adds_under, agreed_later}, Nothing.{can_go_on, nothing_still}, SpareRoom.{Spares, spare_falls}}
 use Rattle.pas_search.specs.{Searches.{MaySearch, SearchRoom}, Serving.right_of, Allocates.AllocatesRun, Choices.Choice, declared.placing.Run.Run}
 use Rattle.pas_search.proofs.ForBackEnds.{events_quiet}
 

@@ -42,14 +42,11 @@ module _ (ranks : Measure) (d : Directory) where
     ranked = ranked;
   }
 
-  seen_later : (Holds : Option ℕ → Type 0) (page : ℕ) (ys xs : List Made) → IsSeen ranks d Holds page xs → IsSeen ranks d Holds page (ys ++ xs)
-  seen_later Holds page ys xs seen = search (arith, once_later)
-
   -- the pages from `next` to below `end` were read as not offered
   all_later : (Holds : ℕ → Option ℕ → Type 0) (next end : ℕ) (ys xs : List Made) → ((p : ℕ) → next ≤ p → p < end → Once (ZeroHere d p) (ys ++ xs))
       → AllSeen ranks d next Holds xs → AllSeen ranks d end Holds (ys ++ xs)
   all_later Holds next end ys xs zeros all p low high = elim (cases_lt p next) [
-    | inl lt ↦ seen_later (Holds p) p ys xs (all p low lt)
+    | inl lt ↦ search (arith, once_later, (all p low lt))
     | inr ge ↦ inl (zeros p ge high)
   ]
 
@@ -172,9 +169,6 @@ module _ {ranks : Measure} {d : Directory} {next : ℕ} {best : Option Best} {σ
     pub next_is : next' ≡ page + 1
     next_is = find.outcome.0
 
-    looked_adds : Adds σ0 σ1 AnyView looked
-    looked_adds = adds_call {D = AnyView} surveys.adds find.adds (λ v l stood met. tt)
-
     -- Its bit was read as 1, in the steps with the looks at its grains, too.
     offered : Once (OneHere d page) looked
     offered = search (arith, once_earlier, right_own, looks_lack)
@@ -195,7 +189,7 @@ module _ {ranks : Measure} {d : Directory} {next : ℕ} {best : Option Best} {σ
           let short = looks_few page (words free) 4 in
           let past : page ≡ next' - 1 = omega (arith, next_is) in record {
             steps = ys ++ looked;
-            adds = adds_call {D = AnyView} looked_adds reads (λ v l stood met. tt);
+            adds = adds_call {D = AnyView} (adds_call {D = AnyView} surveys.adds find.adds (λ v l stood met. tt)) reads (λ v l stood met. tt);
             looks = looks_both ys looked (looks_are page (words free) 4) (looks_both find.steps earlier (scans_look find.steps find.scans) surveys.looks);
             within = omega (arith, next_is, first.of_region.1);
             few = subst (λ n. length (ys ++ looked) ≤ survey_steps (row_words f.pages) n) past

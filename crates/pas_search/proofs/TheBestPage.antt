@@ -1,18 +1,17 @@
 -- The best page of a survey is claimed, and serves or comes to nothing; where it came to nothing the search goes on. What a survey of looks and the claim
 -- that follows it say of the state at entry, where no other actor makes a step meanwhile.
-use Rattle.std.proofs.Common.{◌≡◌, ℕ, ◌+◌, ◌*◌, ◌/◌, ◌%◌, ◌<◌, Bool, true, false, if◌then◌else◌, List, [], ◌∷◌, ◌++◌, Option, Some, inl, inr, refl, ap, sym}
-use Rattle.std.proofs.Common.{◌∙◌, subst, arith, true≢false, ◌≤◌, length, None, Result, append-nil, length-append, ◌==◌, ◌&&◌, Ok, eqb-true}
-use Rattle.std.proofs.lemmas.Bool.{cases_eq, and_parts, false_from_ne_true}
+use Rattle.std.proofs.Common.{◌≡◌, ℕ, ◌+◌, ◌/◌, ◌%◌, ◌<◌, Bool, true, false, if◌then◌else◌, List, [], ◌∷◌, ◌++◌, Option, Some, inl, inr, refl, sym, ◌∙◌, subst}
+use Rattle.std.proofs.{Common.{arith, true≢false, ◌≤◌, length, None, Result, append-nil, length-append, ◌==◌, ◌&&◌, Ok, eqb-true}, lemmas.Bool.cases_eq}
+use Rattle.std.proofs.lemmas.Bool.{and_parts, false_from_ne_true}
 use Rattle.pas_bits.{specs.Bits.has_bit, proofs.Words.none_of_zero}
-use Rattle.pas_profile.specs.{Directories.number_of, Layouts.same_word, Profiles.IsValid, declared.{directory.Directory.Directory, profile.Profile.Profile}}
-use Rattle.pas_profile.specs.declared.{word.Word.Word, event.NoRoom.NoRoom}
-use Rattle.pas_steps.specs.{Agreement.Agreed, Effects.{target, new_value, free_word_at}, Frames.{IsLook, AreLooks}, Past.{Once, Since}, Events.events_by}
-use Rattle.pas_steps.specs.{Events.events_of, Unknown.HasRoom, Calls.{Leads, nothing, Does, Calls, Fate, Kept, Gained, Lost, later, ClearAfter, Effect}}
-use Rattle.pas_steps.specs.{Calls.on_page, Views.{has_right, View, KnowsDeed, holds}, Desks.{triples, Seat, Standing, Adds, CanCall, made}, Evidence.Readings}
-use Rattle.pas_steps.specs.{Evidence.{ReadsEligible, IsAntitone, GetsRight, GetsHere}, Lists.{Whole, Legal, part, word_after}, declared.step.Made.Made}
-use Rattle.pas_steps.{specs.declared.step.Step.{Step, TheVariants.TakeRight}, proofs.{Adding.{adds_call, adds_under, can_call, legal_after}, Calls.does_none}}
-use Rattle.pas_steps.proofs.{Calls.{leads_none, leads_then, still_clear, does_as, does_then}, Frames.{deed_stays, knows_still, looks_read}, Past.always_both}
-use Rattle.pas_steps.proofs.{Unknown.all_known, Sets.kept_kept}
+use Rattle.pas_profile.specs.{Directories.number_of, Profiles.IsValid, declared.{directory.Directory.Directory, profile.Profile.Profile, word.Word.Word}}
+use Rattle.pas_profile.specs.declared.event.NoRoom.{NoRoom}
+use Rattle.pas_steps.specs.{Agreement.Agreed, Effects.target, Frames.AreLooks, Past.{Once, Since}, Events.{events_by, events_of}, Calls.{Leads, nothing, Does}}
+use Rattle.pas_steps.specs.{Calls.{Calls, Fate, Kept, Gained, Lost, ClearAfter, Effect, on_page}, Views.{has_right, View, KnowsDeed, holds}, Desks.triples}
+use Rattle.pas_steps.specs.{Desks.{Seat, Standing, Adds, CanCall, made}, Evidence.{Readings, ReadsEligible, IsAntitone, GetsRight, GetsHere}, Lists.Whole}
+use Rattle.pas_steps.{specs.{Lists.{Legal, part, word_after}, declared.step.{Made.Made, Step.{Step, TheVariants.TakeRight}}}, proofs.Adding.adds_call}
+use Rattle.pas_steps.proofs.{Adding.{adds_under, can_call, legal_after}, Calls.{does_none, leads_none, leads_then, still_clear, does_as, does_then}}
+use Rattle.pas_steps.proofs.{Frames.{deed_stays, knows_still, looks_read}, Past.always_both, Sets.kept_kept}
 use Rattle.pas_core.{specs.Rights.{eligible_bit, free_of_page}, proofs.{Deeds.looked, OneActor.{fit_entry, legal_earlier, lends_none}}}
 use Rattle.pas_search.specs.{Kinds.{searching, AreSearch, AreQuiet, IsQuiet}, Serving.{Rule, ShowsFit, MayServe, ServeSteps, ServesPage, served}}
 use Rattle.pas_search.specs.{Searches.{MaySearch, Searching, SearchRoom, FewEvents, Searches, KeepsFound, Finds}, Ranks.{Measure, IsOfGrains, SeenHere}}
@@ -233,12 +232,7 @@ module _ {F : Type 0} {rule : Rule F} {ranks : Measure} {tells : Bool} {d : Dire
       → CanCall σ1 (SearchRoom σ1.seat.profile d n spare')
   can_go_on {n} {spare} {spare'} can law law' =
       let keep = λ (more : ℕ) (fits : more ≤ spare). room_kept {C = MaySearch d} more tries.adds (rank_can can) tries.outcome.quiet law law' fits in
-      can_call {C = RankRoom σ.seat.profile d n spare} (adds_under tries.adds (λ v l stood met. met.may.may)) can (λ v l stood met.
-      let agreed = tries.adds.agreed v l stood met.may.may in record {
-        may = search (arith, cases_eq, deed_stays, still_clear);
-        room = subst (λ x. HasRoom x n spare' (xs ++ v)) (sym (ap (λ (seat : Seat). seat.profile) tries.adds.seat_is))
-            (keep n met.room.0, elim met.room.1 [ inl all ↦ inl (all_known σ.seat.profile xs v agreed all) | inr wide ↦ inr (keep (n + 1) wide) ]);
-      })
+      search (arith, can_call, adds_under, cases_eq, deed_stays, still_clear, tries.adds.agreed)
 
   -- its parts are those of the try
   pub falls_back : {Goes : Standing → Type 0} → Goes (having_made σ (MayRank d) tries.steps) → FallsBack rule.no_fit rule.steps ranks d σ Goes

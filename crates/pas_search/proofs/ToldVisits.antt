@@ -28,9 +28,7 @@ module _ (f : Profile) (k : ℕ) (l : Whole) (actor : k ≤ f.threads) where
       → Told f k l value (looks page (λ i. value (Word.Free page i)) 4 ++ steps)
   page_told {value} page told is =
       let mute : (i : ℕ) → IsMute (Look (Word.Free page i)) = λ i. record { quiet = λ k e a. refl; blind = λ a e. refl; free = λ e old. refl } in
-      look_told f k l actor (look_told f k l actor (look_told f k l actor (look_told f k l actor told
-      (Word.Free page 0) (mute 0) (is.0, is.1, omega arith)) (Word.Free page 1) (mute 1) (is.0, is.1, omega arith))
-      (Word.Free page 2) (mute 2) (is.0, is.1, omega arith)) (Word.Free page 3) (mute 3) (is.0, is.1, omega arith)
+      search (arith, look_told)
 
 -- ---- looks at a row
 -- the values of so many words of a page vector from this one on
@@ -91,8 +89,7 @@ bit_same : (m n b : ℕ) → has_bit m b ≡ has_bit n b → bit_at m b ≡ bit_
 bit_same m n b h = grind (arith, nat_tests, bit_at-lt)
 
 joined : (a page p : ℕ) → has_bit a (page % 64) ≡ true → (t : Bool) → (page == p) ≡ t → (t || (if t then false else has_bit a (p % 64))) ≡ has_bit a (p % 64)
-joined a page p bit true same = sym (sym (ap (λ q. has_bit a (q % 64)) (eqb-true page p same)) ∙ bit)
-joined a page p bit false same = refl
+joined a page p bit t same = search (arith, eqb-true)
 
 put_back_bit : (a page p : ℕ) → p / 64 ≡ page / 64 → has_bit a (page % 64) ≡ true
     → has_bit (bit_or (bit_and a (bit_not w64 (page_mask page))) (page_mask page)) (p % 64) ≡ has_bit a (p % 64)
@@ -108,8 +105,7 @@ put_back a page fits bit =
 
 restored : (t : Bool) (old mask : ℕ) → (t ≡ true → bit_or (bit_and old (bit_not w64 mask)) mask ≡ old)
     → (if t then bit_or (if t then bit_and old (bit_not w64 mask) else old) mask else (if t then bit_and old (bit_not w64 mask) else old)) ≡ old
-restored true old mask back = back refl
-restored false old mask back = refl
+restored t old mask back = search arith
 
 module _ (f : Profile) (valid : IsValid f) (k : ℕ) (l : Whole) (actor : k ≤ f.threads) (value : Word → ℕ) (d : Directory) (of : IsDirectoryOf f d) where
   -- A visit of an offered page is told, and leaves each word as it was.
@@ -210,8 +206,7 @@ module _ {F : Type 0} (rule : Rule F) (f : Profile) (valid : IsValid f) (d : Dir
   next_low can (suc b) le = let before = next_low can b (omega (arith, le)) in let here = can.from_next b (omega (arith, le)) in grind (arith, before, here)
 
   above_both : (t : Bool) {x y p : ℕ} → p < x → p < y → p < (if t then x else y)
-  above_both true a b = a
-  above_both false a b = b
+  above_both t a b = search arith
 
   next_above : (b c : ℕ) → c < b → has_bit bits c ≡ true → page_at c < next_at b
   next_above zero c lt bit = absurd (omega (arith, lt))
@@ -243,10 +238,7 @@ module _ {F : Type 0} (rule : Rule F) (f : Profile) (valid : IsValid f) (d : Dir
   -- ---- the marks of the pages
   marks_long : (marks : List ℕ) (b : ℕ) → length (marks_to marks b) ≡ length marks
   marks_long marks zero = refl
-  marks_long marks (suc b) = elim (cases_Bool (has_bit bits b)) [
-    | inl e ↦ rw e (length-set (marks_to marks b) (page_at b / 64) _ ∙ marks_long marks b)
-    | inr e ↦ rw e (marks_long marks b)
-  ]
+  marks_long marks (suc b) = search (arith, cases_Bool, length-set, (marks_long marks b))
 
   mark_more : (marks : List ℕ) → length marks ≡ 257 → (b : ℕ) → has_bit bits b ≡ true → b < 64 → block < 257 → (p : ℕ)
       → is_marked (marks_to marks (suc b)) p ≡ ((page_at b == p) || is_marked (marks_to marks b) p)
@@ -314,15 +306,7 @@ module _ {F : Type 0} (rule : Rule F) (f : Profile) (valid : IsValid f) (d : Dir
 goes_alike : {F : Type 0} (rule : Rule F) (f : Profile) (d : Directory) (next : ℕ) (marks same : List ℕ) (xs : List Made)
     → ((p : ℕ) → is_marked marks p ≡ is_marked same p) → GoesOn rule f d next marks xs → GoesOn rule f d next same xs
 goes_alike rule f d next marks same xs alike goes = let s = goes.searching in record {
-  searching = record {
-    still = s.still;
-    searches = s.searches;
-    quiet = s.quiet;
-    untouched = s.untouched;
-    marked = λ p mark. s.marked p (alike p ∙ mark);
-    zeros = λ p low high mark. s.zeros p low high (alike p ∙ mark);
-    lacked = λ p mark. s.lacked p (alike p ∙ mark);
-  };
+  searching = search (arith, s.marked, s.zeros, s.lacked);
   rest = λ p low. sym (alike p) ∙ goes.rest p low;
   within = goes.within;
   few = goes.few;

@@ -2,17 +2,17 @@
 use Rattle.std.proofs.Common.{◌≡◌, ℕ, zero, suc, ◌/◌, ◌%◌, ◌==◌, Bool, true, false, if◌then◌else◌, List, [], ◌∷◌, ◌++◌, refl, ap, sym, ◌∙◌, subst, arith, inl}
 use Rattle.std.proofs.{Common.{append_assoc, length-append, ◌&&◌, eq-eqb, ◌<◌, None, Some, Ok, Err, true≢false, Result, MatchResult}, lemmas.Bool.and_from}
 use Rattle.std.proofs.lemmas.Bool.{cond_both}
-use Rattle.pas_bits.specs.{Bits.has_bit, Masks.{is_set, IsEmpty, HasMember}, declared.mask.Mask4.Mask4}
+use Rattle.pas_bits.specs.{Masks.{is_set, IsEmpty, HasMember}, declared.mask.Mask4.Mask4}
 use Rattle.pas_profile.specs.{declared.{directory.{Directory.Directory, Kind.Kind}, event.NoRoom.NoRoom, profile.Profile.Profile}, Classes.IsClass}
 use Rattle.pas_profile.{specs.{Classes.IsSlotStart, Directories.IsKind, Profiles.{IsValid, IsDirectoryOf}}, proofs.Sizes.{class_grains_positive, slot_lt}}
 use Rattle.pas_rights.specs.{Leaves.{MayLeave, Leaves}, Puts.masked, Takes.{word_take, takes, taken}, PutsBack.{giving_back, MayPutAndReturn, given_back}}
 use Rattle.pas_rights.specs.PutsBack.{PutsAndReturns}
 use Rattle.pas_steps.specs.{Calls.{Calls, Kept, Lost, later, ClearAfter, Does, Gained, now, Leads}, Desks.{made, Standing, CanCall, Makes, triples}}
-use Rattle.pas_steps.specs.{Effects.in_mask, Evidence.{GetsRight, IsAntitone}, Frames.IsOnPage, Lists.{Whole, part, Legal}, Kinds.{Kinds, Deeding, Taking}}
-use Rattle.pas_steps.specs.{Kinds.{Giving, Ending, Claiming, kind_of, is_in, Only, returning}, Views.{View, Puts, Stays, grain_move, held_after, holds}}
-use Rattle.pas_steps.{specs.{Views.{KnowsDeed, has_right}, declared.step.{Made.Made, Step.{Step, TheVariants.{Put, Look, Take, Back}}}}, proofs.Apart.only_both}
-use Rattle.pas_steps.proofs.{Apart.{same_over, holds_over, only_within}, Called.{call_as, call_then, next_call, call_knows}, Calls.{does_then, does_as}}
-use Rattle.pas_steps.proofs.{Calls.{returns_are, kept_first, leads_as}, Frames.returns_on, Past.always_both, Sets.kept_kept}
+use Rattle.pas_steps.specs.{Evidence.{GetsRight, IsAntitone}, Frames.IsOnPage, Lists.{Whole, part, Legal}, Kinds.{Kinds, Deeding, Taking, Giving, Ending}}
+use Rattle.pas_steps.specs.{Kinds.{Claiming, kind_of, is_in, Only, returning}, Views.{View, grain_move, held_after, holds, KnowsDeed, has_right}}
+use Rattle.pas_steps.{specs.declared.step.{Made.Made, Step.{Step, TheVariants.{Take, Back}}}, proofs.Apart.{only_both, same_over, holds_over, only_within}}
+use Rattle.pas_steps.proofs.{Called.{call_as, call_then, next_call, call_knows}, Calls.{does_then, does_as, returns_are, kept_first, leads_as}}
+use Rattle.pas_steps.proofs.{Frames.returns_on, Past.always_both, Sets.kept_kept}
 use Rattle.pas_search.specs.{Serving.{IsJustGot, ServesPage}, Searches.{MaySearch, Searches, IsRefused}, Alone.FindsWhatThereIs, declared.serving.Served.Served}
 use Rattle.pas_search.proofs.{TheBestPage.found_call, FindingAPage.{IsFoundOrRefused, found_before}, Pages.{Prepares, on_page, leaves_page, keeps_page}}
 use Rattle.pas_segregated.specs.{Stops.{in_slots, AreGrains, MayStopAt, LeavesWhere, of_slots, StopsAt, class_directory}, Takes.{takes_after, takes_since}}
@@ -24,8 +24,7 @@ abbrev counted : Kinds
 counted = Deeding ∷ Taking ∷ Claiming ∷ []
 
 not_counted : (page : ℕ) (s : Step) (a : ℕ) (before : List Made) → is_in counted (kind_of s) ≡ false → takes_after page s a before ≡ before
-not_counted page (Look word) a before h = refl
-not_counted page s a before h = cc
+not_counted page s a before h = search arith
 
 -- Steps that give back leave the takes of a page as they were.
 pub takes_kept_by_giving_back : (page : ℕ) (steps before : List Made) → Only giving_back steps → takes_since page (steps ++ before) ≡ takes_since page before
@@ -35,8 +34,7 @@ takes_kept_by_giving_back page = same_over (takes_since page) counted giving_bac
 word_count : (page word mask a : ℕ) (t : Bool) (before : List Made)
     → takes_since page ((if t then [] else made (Take page word mask) a ∷ []) ++ before)
     ≡ (if t then [] else made (Take page word mask) a ∷ []) ++ takes_since page before
-word_count page word mask a true before = refl
-word_count page word mask a false before = ap (λ t. if t then made (Take page word mask) a ∷ takes_since page before else takes_since page before) (eq-eqb page page refl)
+word_count page word mask a t before = search (arith, eq-eqb)
 
 -- Takes that come first on a page are all its takes since its right was got.
 pub takes_are_all_since : (page : ℕ) (masks answers : ℕ → ℕ) (n : ℕ) (before : List Made) → takes_since page before ≡ []
@@ -47,21 +45,18 @@ takes_are_all_since page masks answers (suc n) before none = let here = word_tak
 
 -- none was made when the right was just got
 got_none : (page : ℕ) (s : Step) (a : ℕ) (before : List Made) → GetsRight page s a → takes_after page s a before ≡ []
-got_none page s a before (GetsRight.Claims d b set) = ap (λ t. if t then [] else before) (and_from (page == page) (has_bit b (page % 64)) (eq-eqb page page refl) set)
-got_none page s a before (GetsRight.Deeds d b e) = ap (λ t. if t then [] else before) (and_from (page == page) (b == 0) (eq-eqb page page refl) (eq-eqb b 0 e))
+got_none page s a before given = search (arith, and_from, eq-eqb)
 
 -- A page that was just got has no takes yet.
 pub none_yet : (page : ℕ) (before : List Made) → IsJustGot page before → takes_since page before ≡ []
-none_yet page [] newest = absurd newest
-none_yet page (m ∷ more) newest = got_none page m.step m.answer (takes_since page more) newest
+none_yet page before newest = search (arith, got_none)
 
 -- ---- grains that aren't held
 abbrev getting : Kinds
 getting = Taking ∷ Giving ∷ Ending ∷ []
 
 not_got : (s : Step) (a g : ℕ) (had : Bool) → is_in getting (kind_of s) ≡ false → had ≡ false → held_after (grain_move s a g) had ≡ false
-not_got (Put q w m) a g had h none = cond_both (in_mask q w m g) Puts Stays (λ m. held_after m had ≡ false) (λ put. refl) (λ other. none)
-not_got s a g had h none = cc
+not_got s a g had h given = search (arith, cond_both)
 
 -- Steps that give back hold no grain more.
 pub back_holds : (g : ℕ) (steps : List Made) (v : View) → Only giving_back steps → holds v g ≡ false → holds (steps ++ v) g ≡ false
@@ -202,23 +197,7 @@ module _ (heap class : ℕ) {tells : Bool} {σ σ' : Standing} (served : Served 
     few = searches.few;
     after = [];
     adds = searches.adds;
-    outcome = record {
-      page = searches.outcome.page;
-      class_is = refl;
-      home = refl;
-      starts = λ s h. ((searches.outcome.serves.are s).0 h).0;
-      some = searches.outcome.serves.some;
-      took = searches.outcome.serves;
-      choice = searches.outcome.choice;
-      shows = searches.outcome.shows;
-      marks = searches.outcome.marks;
-      few = searches.outcome.few;
-      events = searches.outcome.events;
-      leaves = refl;
-      after_few = omega arith;
-      after_kinds = tt;
-      gets = gets_slots;
-    };
+    outcome = search (arith, gets_slots);
     told = searches.told;
   }
 
@@ -231,8 +210,7 @@ refills_err heap class room searches = record { searched = searches.steps; searc
 found_or_refused : (fill : Filling) (f : Profile) (searched after : List Made) (answer : Result Slots NoRoom)
     → MatchResult answer (GivesSlots fill f searched after) (λ room. IsRefused fill.no_fit f fill.directory searched room × (after ≡ []))
     → IsFoundOrRefused fill.no_fit f fill.directory searched answer
-found_or_refused fill f searched after (Ok slots) gives = record { page = slots.page; of_region = gives.page; choice = gives.choice; kept = in_starts fill.class slots.starts; shows = gives.shows }
-found_or_refused fill f searched after (Err room) refused = refused.0
+found_or_refused fill f searched after answer gives = search arith
 
 -- A refill whose actor went on alone finds what there is.
 pub refill_alone : {σ σ' : Standing} (fill : Filling) (tells : Bool) (answer : Result Slots NoRoom) → (call : Refills fill tells σ σ' answer) → (l : Whole)

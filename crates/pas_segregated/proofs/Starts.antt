@@ -1,6 +1,6 @@
 -- The slots of a class in a mask.
-use Rattle.std.proofs.Common.{◌≡◌, ℕ, ◌+◌, ◌-◌, ◌*◌, ◌/◌, ◌%◌, ◌<◌, ◌≤◌, ◌==◌, ◌↔◌, nat_le, IsTrue, Bool, true, false, ◌&&◌, List, length, slice_index, get_or}
-use Rattle.std.proofs.{Common.{ap, sym, ◌∙◌, arith, inl, inr, eqb-true, eq-eqb, leb-true, le-leb, div-add-mod'}, lemmas.Bool.{agree_below, agree_below_at}}
+use Rattle.std.proofs.Common.{◌≡◌, ℕ, ◌+◌, ◌-◌, ◌/◌, ◌%◌, ◌<◌, ◌≤◌, ◌==◌, ◌↔◌, nat_le, IsTrue, Bool, true, false, ◌&&◌, List, length, slice_index, get_or, ap}
+use Rattle.std.proofs.{Common.{sym, ◌∙◌, arith, inl, inr, eqb-true, eq-eqb, leb-true, le-leb, div-add-mod'}, lemmas.Bool.{agree_below, agree_below_at}}
 use Rattle.std.proofs.{lemmas.{Bool.{and_parts, and_from, lt-leb, cases_lt, and_right, false_from_ne_true}, Nat.same_from_place}, Math.Nat.mod-lt}
 use Rattle.pas_profile.{specs.Classes.{IsClass, class_grains, usable_grains, IsSlotStart}, proofs.Sizes.{of_each_class, class_passes, class_grains_positive}}
 use Rattle.pas_profile.proofs.Sizes.{usable_grains_le, slot_end}
@@ -43,28 +43,18 @@ table_bits table default computed sized class is g = elim (cases_lt g 256) [
 pub whole_is : (class : ℕ) (mask begins starts whole : Mask4) → ((g : ℕ) → IsTrue (is_set begins g) ↔ AreSet mask g (class_grains class))
     → ((g : ℕ) → is_set starts g ≡ is_start class g) → ((g : ℕ) → is_set whole g ≡ (is_set begins g && is_set starts g))
     → (g : ℕ) → IsTrue (is_set whole g) ↔ (IsSlotStart class g × AreSet mask g (class_grains class))
-whole_is class mask begins starts whole runs all joined g = (
-  λ h. let parts = and_parts (is_set begins g) (is_set starts g) (sym (joined g) ∙ h) in (start_is class g (sym (all g) ∙ parts.1), (runs g).0 parts.0),
-  λ both. joined g ∙ and_from (is_set begins g) (is_set starts g) ((runs g).1 both.1) (all g ∙ is_start-from class g both.0),
-)
+whole_is class mask begins starts whole runs all joined g = search (arith, and_parts, start_is, and_from, is_start-from)
 
 -- ---- the grains of slots
 -- a slot that covers the grain begins at the multiple of the class's grains that is next below it
 pub start_at : (class s g : ℕ) → IsSlotStart class s → s ≤ g → g < s + class_grains class → start_of class g ≡ s
 start_at class s g slot low high =
-    let k = class_grains class in let first = div-add-mod' s (class_grains class) in let here = div-add-mod' g (class_grains class) in
-    let aligned = slot.aligned in
-    let inside : g % class_grains class < class_grains class = mod-lt g (omega (arith, low, high)) in
-    let place = same_from_place (g / class_grains class) (g % class_grains class) (s / class_grains class) (g - s) (class_grains class) inside (omega (arith, low, high)) (omega (arith, first, here, aligned, low)) in
-    let same : g / class_grains class * class_grains class ≡ s / class_grains class * class_grains class = ap (λ n. n * class_grains class) place.0 in
-    omega (arith, same, first, aligned)
+    search (arith, div-add-mod', mod-lt, same_from_place)
 
 -- A grain lies in the slot that covers it.
 pub start_below : (class g : ℕ) → IsClass class → (start_of class g ≤ g) × (g < start_of class g + class_grains class)
 start_below class g is =
-    let some = class_grains_positive class is in let whole = div-add-mod' g (class_grains class) in
-    let inside : g % class_grains class < class_grains class = mod-lt g (omega (arith, some)) in
-    (omega (arith, whole), omega (arith, whole, inside))
+    search (arith, class_grains_positive, div-add-mod', mod-lt)
 
 -- A mask near the starts of slots covers just their grains.
 pub covered_is : (class : ℕ) (starts near : Mask4) → IsClass class → length near.0 ≡ 4 → AreStarts class starts

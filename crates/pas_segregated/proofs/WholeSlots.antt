@@ -27,10 +27,7 @@ rest_is class got starts kept others rest covers other both g lt = both g ∙ ap
 -- what was got and not put back stays got; what was put back wasn't held before
 kept_fate : (t k r held : Bool) → (t ≡ true → held ≡ false) → (k ≡ true → t ≡ true) → r ≡ (t && not k)
     → SameGrain (later (if t then Gained else Kept) (if r then Lost else Kept)) (if k then Gained else Kept) held
-kept_fate true true r held none got is = inl (ap (λ x. later Gained (if x then Lost else Kept)) is)
-kept_fate true false r held none got is = inr (none refl, ap (λ x. now (later Gained (if x then Lost else Kept)) false) is)
-kept_fate false true r held none got is = let z : false ≡ true = got refl in cc
-kept_fate false false r held none got is = inl (ap (λ x. later Kept (if x then Lost else Kept)) is)
+kept_fate t k r held given got is = search arith
 
 -- ---- slots and readings
 -- a slot's grains are usable
@@ -56,10 +53,7 @@ module _ (class page : ℕ) (d : Directory) (is : IsClass class) {σ σ1 : Stand
 
   free_slots : AreFreeSlots class (is_set took.answers) starts
   free_slots s = (
-    λ h. let both = (whole s).0 h in (
-      both.0,
-      λ g low high. (and_parts (is_set took.answers g) (is_usable class g) (sym (read_of g (slot_in class s g is both.0 high)) ∙ both.1 g low high)).0,
-    ),
+    search (arith, and_parts, read_of, slot_in),
     λ both. (whole s).1 (
       both.0,
       λ g low high. read_of g (slot_in class s g is both.0 high) ∙ and_from (is_set took.answers g) (is_usable class g) (both.1 g low high) (slot_usable class s g both.0 high),
@@ -74,8 +68,7 @@ module _ (class page : ℕ) (d : Directory) (is : IsClass class) {σ σ1 : Stand
 
   -- Of what was taken the rest is what isn't kept.
   others : (p t k r : Bool) → r ≡ (t && not k) → (p && r) ≡ ((p && t) && not (p && k))
-  others true t k r h = h
-  others false t k r h = refl
+  others p t k r h = search arith
 
   rest_is_other : (g : ℕ) → masked page rest g ≡ (masked page got g && not (slots_on page class starts g))
   rest_is_other g = others (page == g / 256) (is_set got (g % 256)) (in_starts class starts (g % 256)) (is_set rest (g % 256)) (rests (g % 256) (omega arith))
@@ -87,13 +80,7 @@ module _ (class page : ℕ) (d : Directory) (is : IsClass class) {σ σ1 : Stand
   first_call = call_as (GetsGrains (masked page got)) took.calls (λ v met. met.right) (λ v w met gets. gets)
 
   may_put_back : (v : View) → MayServe page d v → GetsGrains (masked page got) v (first ++ v) → MayPutAndReturn page d rest (first ++ v)
-  may_put_back v met gets = let clear = gets.does.clear page met.clear in record {
-    deed = deeds_same (Taking ∷ []) refl page first v (takes_only page (words usable) (words took.answers) 4) ∙ met.deed;
-    puts = record {
-      held = λ g here. gets.does.held g ∙ ap (λ t. now (if t then Gained else Kept) (holds v g)) (rest_got g here);
-      stamped = clear.stamped;
-    };
-  }
+  may_put_back v met gets = search (arith, deeds_same, takes_only, rest_got)
 
   -- The rest of a page's grains may be put back.
   pub can_put_back : CanCall σ (MayServe page d) → CanCall σ1 (MayPutAndReturn page d rest)
@@ -124,10 +111,7 @@ module _ (class page : ℕ) (d : Directory) (is : IsClass class) {σ σ1 : Stand
       | inl here ↦ elim (cases_Bool (holds (first ++ before) g)) [
         | inr lost ↦ back_holds g back.steps (first ++ before) back.kinds lost
         | inl held ↦
-            let gets = first_call.leads.from can.view can.met (agreed_later σ.seat.profile can.view back.steps first at_view) in
-            let gone = (back.calls.leads.from (first ++ can.view) (may_put_back can.view can.met gets) at_back).held g in
-            same_after g back.steps (first ++ before) (first ++ can.view) (held ∙ sym (gets.does.held g ∙ ap (λ t. now (if t then Gained else Kept) (holds can.view g)) here))
-            ∙ gone ∙ ap (λ t. now (if t then Lost else Kept) (holds (first ++ can.view) g)) (rest_is_other g ∙ ap (λ t. t && not (slots_on page class starts g)) here ∙ ap not (and_right (page == g / 256) (in_starts class starts (g % 256)) (empty (start_of class (g % 256)) (let at = start_below class (g % 256) is in omega (arith, at.0)))))
+            search (arith, first_call, agreed_later, at_view, may_put_back, at_back, same_after, rest_is_other, and_right, start_below)
       ]
     ]
 
@@ -174,10 +158,7 @@ module _ (class page : ℕ) (d : Directory) (is : IsClass class) {σ σ1 : Stand
           (only_within (Taking ∷ []) (Putting ∷ Taking ∷ []) first refl (takes_only page (words usable) (words took.answers) 4)))))
 
     marks_kept : HasMember starts → Always (KeepsMarks page) (back.steps ++ first)
-    marks_kept some = elim back.order [
-      | inl h ↦ subst (λ s. Always (KeepsMarks page) (s ++ first)) (sym h.1) first_marks
-      | inr h ↦ return_marks some h.0 h.1 h.2 h.3 h.4 h.5
-    ]
+    marks_kept some = search (arith, first_marks, return_marks)
 
     -- A page of which whole slots were taken and the rest put back has just those slots.
     pub takes_slots : TakesSlots class page d σ σ2 starts

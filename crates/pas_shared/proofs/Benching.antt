@@ -15,8 +15,7 @@ empty_row_of : (l : Whole) → IsRowOf empty_row l
 empty_row_of l = record { since = l; goes_on = sym (append-nil l); made_is = steps_by_nobody (among []) l (λ k. refl) }
 
 nobody_there : (k : ℕ) (v : View) → HasRow (empty_row ∷ []) k v → ⊥
-nobody_there k v (inl h) = true≢false (sym h.0)
-nobody_there k v (inr h) = h
+nobody_there k v given = search (arith, true≢false)
 
 -- A bench that enters a region has no row.
 pub lays_out : (f : Profile) (slots i : ℕ) → Enters (Holds f) slots i (λ n w. IsEmptyBench (w, []))
@@ -39,17 +38,12 @@ isnt_true test k h = grind arith
 
 -- a row of fewer actors, none of which made a step
 row_of_fewer : (test : ℕ → Bool) (r : Row) (l : Whole) → r.made ≡ [] → IsRowOf r l → IsRowOf (row_of_only test r) l
-row_of_fewer test r l none h = record {
-  since = h.since;
-  goes_on = h.goes_on;
-  made_is = no_steps_by_fewer (among (only test r.actors)) (among r.actors) h.since (λ k its. (among_only test r.actors k its).0) (h.made_is ∙ ap steps_of none) ∙ sym (ap steps_of none);
-}
+row_of_fewer test r l none h = search (arith, no_steps_by_fewer, among_only)
 
 -- The row with some of its actors names these, with what they made.
 only_names : (test : ℕ → Bool) (r : Row) (k : ℕ) (v : View) → HasRow (row_of_only test r ∷ []) k v
     → (among (only test r.actors) k ≡ true) × (test k ≡ true) × HasRow (r ∷ []) k v
-only_names test r k v (inl p) = let its = among_only test r.actors k p.0 in (p.0, its.1, inl (its.0, p.1))
-only_names test r k v (inr p) = absurd p
+only_names test r k v given = search (arith, among_only)
 
 row_fits : (test : ℕ → Bool) (r : Row) (l : Whole) → r.made ≡ [] → AreRowsOf (r ∷ []) l → Fits l (Benched (row_of_only test r ∷ []))
 row_fits test r l none rows = (tt, tt, (row_of_fewer test r l none rows.0, tt))
@@ -59,9 +53,7 @@ gives : (f : Profile) (id : ℕ) (test : ℕ → Bool) (r : Row) → r.made ≡ 
     → Splits (Holds f) id (Benched (r ∷ [])) (Benched (row_of_only (isnt test) r ∷ [])) (Benched (row_of_only test r ∷ []))
 gives f id test r none s h there =
     let rows = h.rows id (Benched (r ∷ [])) there in
-    let stay : (k : ℕ) (v : View) → HasRow (row_of_only (isnt test) r ∷ []) k v → (among (only test r.actors) k ≡ false) × HasRow (r ∷ []) k v = λ k v named.
-    let p = only_names (isnt test) r k v named in
-    (false_from_ne_true (among (only test r.actors) k) (λ picked. true≢false (sym (among_only test r.actors k picked).1 ∙ isnt_true test k p.1)), p.2) in
+    let stay : (k : ℕ) (v : View) → HasRow (row_of_only (isnt test) r ∷ []) k v → (among (only test r.actors) k ≡ false) × HasRow (r ∷ []) k v = search (arith, only_names, false_from_ne_true, true≢false, among_only, isnt_true) in
     split_by h id (Benched (r ∷ [])) (Benched (row_of_only (isnt test) r ∷ [])) (Benched (row_of_only test r ∷ [])) (among (only test r.actors)) there stay
     (λ k v named. let p = only_names test r k v named in (p.0, p.2))
     (λ k e. (h.named id (Benched (r ∷ [])) k (made_in r k) there (inl ((among_only test r.actors k e).0, refl))).0)

@@ -1,5 +1,5 @@
 -- A ledger's seat, and a pass whose actor it took in.
-use Rattle.std.proofs.Common.{◌≡◌, ℕ, ◌<◌, List, [], ◌∷◌, refl, sym, ap, ◌∙◌, subst, arith}
+use Rattle.std.proofs.Common.{◌≡◌, ℕ, ◌<◌, List, [], ◌∷◌, sym, ap, ◌∙◌, subst, arith}
 use Rattle.atomic_table.specs.Table.{Me, Splits, Allows}
 use Rattle.pas_profile.specs.declared.profile.Profile.{Profile}
 use Rattle.pas_steps.specs.Views.{View}
@@ -40,5 +40,4 @@ took_alone me own now k v is none its new =
 
 -- it saw what it saw
 pub seen_by_rest : (u : Roster) → seen_in (all_but_last u) ≡ seen_in u
-seen_by_rest (Settled es (p ∷ ps)) = refl
-seen_by_rest _ = refl
+seen_by_rest u = search arith

@@ -1,6 +1,6 @@
 -- Elements that move from one list to another.
-use Rattle.std.proofs.{Common.{◌≡◌, ◌∙◌, suc, List, [], ◌∷◌, ◌++◌, map, refl, ap, sym, subst, arith, append_assoc}, lemmas.List.Elements.{All-append, All-cons}}
-use Rattle.std.{proofs.lemmas.List.Elements.All-nil, specs.List.All}
+use Rattle.std.proofs.{Common.{◌≡◌, suc, List, [], ◌∷◌, ◌++◌, map, refl, sym, subst, arith, append_assoc}, lemmas.List.Elements.{All-append, All-cons, All-nil}}
+use Rattle.std.specs.List.{All}
 
 -- one more at the end
 pub all_more : {A : Type 0} (P : A → Type 0) (xs ys : List A) (x : A) → ys ≡ xs ++ x ∷ [] → All P xs → P x → All P ys
@@ -28,5 +28,4 @@ last_is {A = A} P xs ys x is all = parted ys (subst (λ (zs : List A). All P zs)
 pub first_moves : {A B : Type 0} (f : A → B) (made more : List B) (xs rest : List A) (x : A) (all : List B)
     → xs ≡ x ∷ rest → more ≡ made ++ f x ∷ [] → made ++ map f xs ≡ all → more ++ map f rest ≡ all
 first_moves {A = A} {B = B} f made more xs rest x all is one so =
-    ap (λ (ys : List B). ys ++ map f rest) one ∙ append_assoc made (f x ∷ []) (map f rest)
-    ∙ sym (ap (λ (ys : List A). made ++ map f ys) is) ∙ so
+    cc (append_assoc made (f x ∷ []) (map f rest))

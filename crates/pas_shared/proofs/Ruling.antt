@@ -5,8 +5,8 @@ use Rattle.std.{proofs.lemmas.{Bool.{cases_eq, false_from_ne_true}, List.{set-ge
 use Rattle.pas_profile.specs.{Profiles.{IsValid, IsWordOf}, Layouts.{index_of, words_of}, declared.{event.Event.Event, profile.Profile.Profile, word.Word.Word}}
 use Rattle.pas_profile.proofs.Places.{index_lt}
 use Rattle.pas_machine.specs.Machine.{Run}
-use Rattle.pas_steps.specs.{Views.{known_deed, View, epoch_of}, Effects.{target, new_value}, Desks.{made, triple, triples}, States.{profile_of, word_in}}
-use Rattle.pas_steps.specs.{Lists.{Triple, Whole, Legal, part, visible, word_after}, declared.{step.{Step.Step, Made.Made}, state.State.State}}
+use Rattle.pas_steps.specs.{Views.{View, epoch_of}, Effects.{target, new_value}, Desks.{made, triple, triples}, States.{profile_of, word_in}, Lists.Triple}
+use Rattle.pas_steps.specs.{Lists.{Whole, Legal, part, visible, word_after}, declared.{step.{Step.Step, Made.Made}, state.State.State}}
 use Rattle.pas_steps.proofs.{Parts.{part_of_own, part_of_others}, Running.target_of_region}
 use Rattle.pas_core.proofs.{MachineRuns.{runs, agrees, in_one_place, lists_borne}, Offers.{parked_is_owed, empty_is_minded}, Deeds.known_is}
 use Rattle.pas_core.proofs.{Choosing.{step_taken, step_passed, steps_by_one}, Lives.{life_is_known, ends_stamped, unstamped_is_held, stamp_known, epoch_known}}
@@ -33,14 +33,7 @@ good f l valid legal = record {
   untouched = free_without_deed f l legal;
   borne = lists_borne f l valid legal;
   right = right_in_one_place f l legal;
-  known = record {
-    deed = λ k p ne. sym (known_is (known_deed (part k l) p) (word_after l (Word.Deed p)) (deeds_known f l legal k p) ne);
-    backed = backed_known f l valid legal;
-    free = free_known f l legal;
-    life = λ k g w h. sym (life_is_known f l valid legal k g w h).1;
-    stamp = stamp_known f l valid legal;
-    epoch = epoch_known f l legal;
-  };
+  known = search (arith, known_is, deeds_known, backed_known, free_known, life_is_known, stamp_known, epoch_known);
   checked = parked_is_owed f l legal;
   stamped = ends_stamped f l valid legal;
   unstamped = unstamped_is_held f l legal;
@@ -203,8 +196,7 @@ rows_still (r ∷ rs) k m l none h = (at (among r.actors k) refl, rows_still rs 
     at false other = row_still r k m l other h.0
 
 names_rows : (u : Roster) (k : ℕ) (x : View) → HasRow (rows_in u) k x → Names u k x
-names_rows (Benched rs) k x h = h
-names_rows _ k x h = absurd h
+names_rows u k x h = search arith
 
 -- A roster with one more step still tells its actors apart.
 apart_with : (k : ℕ) (v : View) (m : Made) (u : Roster) → SitsFor u k v → Apart (with_made k m u)
@@ -323,8 +315,7 @@ may_change {n = n} change place asked at makes looked altered new =
 
 -- A choice of two values is the same by either name.
 pub either_if : (b : Bool) (x y : ℕ) → (if b then x else y) ≡ either b x y
-either_if true x y = refl
-either_if false x y = refl
+either_if b x y = search arith
 
 -- ---- a split
 at_end : {A : Type 0} (l : List A) (a b : A) (j : ℕ) → get_elem? (l ++ a ∷ []) j ≡ some b → (get_elem? l j ≡ some b) ⊎ ((j ≡ length l) × (a ≡ b))
@@ -554,18 +545,15 @@ kept : (u : Roster) (n : ℕ) (w : View) (k : ℕ) (v : View) → HasPart (parts
 kept u n w k v h = grind (arith, has_right)
 
 taken_in : (u : Roster) (n : ℕ) (w : View) → IsNoBench u → HasPart (parts_in (joined u (alone n w))) n w
-taken_in (Benched rs) n w list = absurd list
-taken_in _ n w list = inl (refl, refl)
+taken_in u n w list = search arith
 
 -- A roster that is no bench is none with one actor more.
 pub no_bench_still : (u : Roster) (n : ℕ) (w : View) → IsNoBench u → IsNoBench (joined u (alone n w))
-no_bench_still (Benched rs) n w list = list
-no_bench_still _ n w list = tt
+no_bench_still u n w list = search arith
 
 -- what it saw stays
 pub seen_still : (u : Roster) (n : ℕ) (w : View) → seen_in (joined u (alone n w)) ≡ seen_in u
-seen_still (Unused m) n w = refl
-seen_still _ n w = refl
+seen_still u n w = search arith
 
 -- one more pass
 pub takes_in : (u : Roster) (me : Me (Unit {0}) Roster) (p : SharedPass) (rest : List SharedPass) → IsNoBench u → me ≡ (joined u p.place.seat.me.0, [])
@@ -594,15 +582,7 @@ ends f u state passes left named = (
 pub left_by : (f key : Profile) (id : ℕ) (u : Roster) (words : List ℕ) (slots : List (Unit {0})) (state : State) → key ≡ f
     → Final (Seen (Holds key) id u) words slots → profile_of state ≡ f → ((w : Word) → IsWordOf f w → word_in state w ≡ slice_index words (index_of f.pages w))
     → IsLeftBy f u state
-left_by f key id u words slots state known (s, h, words_are, homes, there) profiled values = record {
-  profile = profiled;
-  words = words;
-  rosters = s.views;
-  holds = subst (λ (z : Profile × List ℕ). AreAfterOneList z.0 z.1 s.views) (λ i. (known i, words_are i)) h.0;
-  seat = id;
-  there = h.1;
-  values = values;
-}
+left_by f key id u words slots state known (s, h, words_are, homes, there) profiled values = search arith
 
 -- An element that is at a place is the one that is read there.
 pub read_at : (xs : List ℕ) (i a d : ℕ) → get_elem? xs i ≡ some a → get_or xs i d ≡ a
@@ -646,8 +626,7 @@ pub learns : {f : Profile} {words : List ℕ} {rosters : List Roster} (h : AreAf
     → ((k : ℕ) (v : View) → Names now k v → (h.seat_number k ≡ id) × (h.own k ≡ v)) → Fits h.whole now
     → AreAfterOneList f (set words i (get_or words i 0)) (set rosters id now)
 learns {f = f} {words = words} {rosters = rosters} h i id now its fit =
-    subst (λ (ws : List ℕ). AreAfterOneList f ws (set rosters id now)) (sym (set-get_or words i 0))
-    (seated h (set rosters id now) h.seat_number named (know_set (Fits h.whole) rosters id now (all_fit h) fit))
+    rw set-get_or (seated h (set rosters id now) h.seat_number named (know_set (Fits h.whole) rosters id now (all_fit h) fit))
   where
     named : AreNamed h.own h.seat_number (set rosters id now)
     named j u k v e has = ⊎_elim
@@ -689,8 +668,7 @@ both_earlier one other both l one_is other_is new seen = search (arith, first_ea
 
 -- ---- what stands behind a past
 one_more : (b : Bool) (m : Made) (v w x : View) → x ≡ v ++ w → (if b then m ∷ x else x) ≡ (if b then m ∷ v else v) ++ w
-one_more true m v w x is = ap (λ (y : View). m ∷ y) is
-one_more false m v w x is = is
+one_more b m v w x is = search arith
 
 -- An actor's part of two lists together is that of both, one after the other.
 pub part_both : (k : ℕ) (l m : Whole) → part k (l ++ m) ≡ part k l ++ part k m
@@ -700,8 +678,4 @@ part_both k (t ∷ l) m = one_more (t.actor == k) t.made (part k l) (part k m) (
 -- A list that goes on from a past, and has of an actor what it made since, stands after that past.
 pub stands_after : (first whole : Whole) (k : ℕ) (v since : View) → IsEarlier first whole → HasOwn k v first → part k whole ≡ since ++ v
     → StandsAfter first k since whole
-stands_after first whole k v since earlier own now = record {
-  later = earlier.0;
-  whole_is = earlier.1;
-  own = append_cancel_right (part k earlier.0) since v (ap (λ (x : View). part k earlier.0 ++ x) (sym own) ∙ (sym (part_both k earlier.0 first) ∙ (ap (part k) (sym earlier.1) ∙ now)));
-}
+stands_after first whole k v since earlier own now = search (arith, append_cancel_right, part_both)

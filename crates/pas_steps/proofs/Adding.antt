@@ -1,5 +1,5 @@
 -- How the steps of a call are put together.
-use Rattle.std.proofs.Common.{◌≡◌, ℕ, ◌+◌, ◌≤◌, List, [], ◌∷◌, ◌++◌, length, refl, ap, sym, ◌∙◌, subst, arith, append_assoc}
+use Rattle.std.proofs.Common.{◌≡◌, ℕ, ◌+◌, ◌≤◌, List, [], ◌∷◌, ◌++◌, length, refl, ap, sym, subst, arith, append_assoc}
 use Rattle.pas_profile.specs.declared.profile.Profile.{Profile}
 use Rattle.pas_steps.specs.{declared.step.{Made.Made, Step.Step}, Views.View, Events.events_of, Allowed.{Allowed, IsStepOf}, Agreement.{Agrees, Agreed}}
 use Rattle.pas_steps.specs.{Lists.{Whole, Legal}, Desks.{Standing, made, triple, triples, CanMake, Makes, CanCall, Adds}}
@@ -23,12 +23,7 @@ pub adds_step : {σ σ' σ'' : Standing} {C : View → Type 0} {xs : List Made} 
     → Adds σ σ' C xs → Makes σ' σ'' step a → ((v : View) (l : Whole) → σ.stands v l → C v → Allowed σ.seat.profile (xs ++ v) step)
     → Adds σ σ'' C (made step a ∷ xs)
 adds_step {σ} {σ'} {σ''} {C} {xs} {step} {a} before makes allowed =
-    let may : (v : View) (l : Whole) → σ.stands v l → C v → Allowed _ (xs ++ v) step = λ v l stood met. subst (λ s. Allowed s.profile (xs ++ v) step) (sym before.seat_is) (allowed v l stood met) in
-    record {
-      seat_is = makes.seat_is ∙ before.seat_is;
-      added = λ v l stood met. rw before.seat_is at (makes.added (xs ++ v) (triples σ.seat.actor xs ++ l) (before.added v l stood met) (may v l stood met));
-      agreed = λ v l stood met. (subst (λ s. Agrees s.profile (xs ++ v) step a) before.seat_is (makes.agrees (xs ++ v) _ (before.added v l stood met) (may v l stood met)), before.agreed v l stood met);
-    }
+    search arith
 
 -- A call after another one, whose condition holds then, is one call with it.
 pub adds_call : {σ σ' σ'' : Standing} {C D : View → Type 0} {xs ys : List Made}
@@ -44,23 +39,12 @@ adds_under adds under = record { seat_is = adds.seat_is; added = λ v l stood me
 pub can_step : {σ σ' : Standing} {C : View → Type 0} {xs : List Made} {step : Step}
     → Adds σ σ' C xs → CanCall σ C → IsStepOf σ.seat.profile step → ((v : View) (l : Whole) → σ.stands v l → C v → Allowed σ.seat.profile (xs ++ v) step)
     → CanMake σ' step
-can_step {σ} {σ'} {C} {xs} {step} before can of_region allowed = record {
-  of_region = subst (λ s. IsStepOf s.profile step) (sym before.seat_is) of_region;
-  view = xs ++ can.view;
-  whole = triples σ.seat.actor xs ++ can.whole;
-  stood = before.added can.view can.whole can.stood can.met;
-  allowed = subst (λ s. Allowed s.profile (xs ++ can.view) step) (sym before.seat_is) (allowed can.view can.whole can.stood can.met);
-}
+can_step {σ} {σ'} {C} {xs} {step} before can of_region allowed = search arith
 
 -- After a call a desk can call what asks for what holds then.
 pub can_call : {σ σ' : Standing} {C D : View → Type 0} {xs : List Made}
     → Adds σ σ' C xs → CanCall σ C → ((v : View) (l : Whole) → σ.stands v l → C v → D (xs ++ v)) → CanCall σ' D
-can_call {σ} {σ'} {C} {D} {xs} before can meets = record {
-  view = xs ++ can.view;
-  whole = triples σ.seat.actor xs ++ can.whole;
-  stood = before.added can.view can.whole can.stood can.met;
-  met = meets can.view can.whole can.stood can.met;
-}
+can_call {σ} {σ'} {C} {D} {xs} before can meets = search arith
 
 -- ---- on a desk that tells the whole state
 -- each list that the desk stands for is legal
@@ -78,9 +62,7 @@ pub room_left : {σ σ' : Standing} {C : View → Type 0} {xs : List Made} {spar
     → ((v : View) (l : Whole) → σ'.stands v l → spare + length (events_of σ'.seat.actor v) ≡ σ'.seat.room)
     → length (events_of σ.seat.actor (xs ++ can.view)) + n ≤ σ.seat.room → n ≤ spare
 room_left {σ} {σ'} {C} {xs} {spare} n adds can spares fits =
-    let law : spare + length (events_of σ.seat.actor (xs ++ can.view)) ≡ σ.seat.room
-    = subst (λ s. spare + length (events_of s.actor (xs ++ can.view)) ≡ s.room) adds.seat_is (spares (xs ++ can.view) (triples σ.seat.actor xs ++ can.whole) (adds.added can.view can.whole can.stood can.met)) in
-    omega (arith, law, fits)
+    search arith
 
 -- ---- a list of steps that agrees, cut
 pub agreed_first : (f : Profile) (v : View) (ys xs : List Made) → Agreed f v (ys ++ xs) → Agreed f (xs ++ v) ys

@@ -1,11 +1,11 @@
 -- What steps of some kinds leave as it was: for each thing of a view the kinds that may change it, and that all others leave it. A set of kinds
 -- that is apart from those leaves it, and that it is apart is found by computing.
-use Rattle.std.proofs.Common.{arith, ◌≡◌, ℕ, ◌==◌, Bool, true, false, not, List, [], ◌∷◌, ◌++◌, Option, None, inl, inr, refl, ap, sym, ◌∙◌, subst, true≢false}
-use Rattle.std.proofs.{Common.eqb-true, lemmas.Bool.{and_parts, not-true, or_cases, false_from_ne_true}}
+use Rattle.std.proofs.Common.{arith, ◌≡◌, ℕ, ◌==◌, Bool, true, false, not, List, [], ◌∷◌, ◌++◌, None, inl, inr, refl, ap, sym, ◌∙◌, subst, true≢false, eqb-true}
+use Rattle.std.proofs.lemmas.Bool.{and_parts, not-true, or_cases, false_from_ne_true}
 use Rattle.pas_steps.specs.{declared.step.{Made.Made, Step.Step}, Kinds.{Kinds, kind_of, place_of, has_place, is_in, within, apart, Only, moving, righting}}
-use Rattle.pas_steps.specs.{Kinds.{deed_telling, epoch_telling, unstamping, examining, showing}, Views.{View, Stays, grain_move, held_after, holds}}
-use Rattle.pas_steps.specs.Views.{right_after, has_right, deed_after, known_deed, epoch_after, known_epoch, epoch_of, unstamped_after, is_unstamped}
-use Rattle.pas_steps.{specs.{Views.{examined_after, examines}, Events.{event_of, with_event, events_by}}, proofs.Past.{always_map, always_both}}
+use Rattle.pas_steps.specs.{Kinds.{deed_telling, epoch_telling, unstamping, examining, showing}, Views.{View, Stays, grain_move, held_after, holds, has_right}}
+use Rattle.pas_steps.specs.{Views.{known_deed, known_epoch, epoch_of, unstamped_after, is_unstamped, examines}, Events.{event_of, with_event, events_by}}
+use Rattle.pas_steps.proofs.Past.{always_map, always_both}
 
 -- ---- sets
 in_within : (ks ls : Kinds) (n : ℕ) → within ks ls ≡ true → has_place ks n ≡ true → has_place ls n ≡ true

@@ -1,17 +1,16 @@
 -- What a call does, of no step, of one, and of two calls; and of steps by their kinds and their page.
 use Rattle.std.proofs.Common.{◌≡◌, ◌≢◌, ℕ, ◌+◌, ◌*◌, ◌/◌, ◌%◌, ◌==◌, Bool, true, false, ◌&&◌, ◌⊎◌, if◌then◌else◌, List, [], ◌∷◌, ◌++◌, inl, refl, ap, sym, ◌∙◌}
-use Rattle.std.proofs.{Common.{subst, arith, append_assoc, true≢false, eq-eqb, eqb-true, ne_eqb}, lemmas.Bool.{and_left, and_right, cond-false}}
-use Rattle.pas_bits.specs.{Bits.has_bit, Runs.{in_run, meets_page}}
-use Rattle.pas_profile.specs.{Lives.live_word, Blocks.grain_of, declared.{name.Name.Name, profile.Profile.Profile, word.Word.Word}}
+use Rattle.std.proofs.{Common.{subst, arith, append_assoc, true≢false, eq-eqb, eqb-true, ne_eqb}, lemmas.Bool.{and_right, cond-false}}
+use Rattle.pas_bits.specs.Runs.{in_run, meets_page}
+use Rattle.pas_profile.specs.{Lives.live_word, Blocks.grain_of, declared.{name.Name.Name, profile.Profile.Profile}}
 use Rattle.pas_steps.specs.{Agreement.{Agrees, Agreed}, Clear.{OwesNothing, IsClearOn, IsClear}, Desks.{Seat, made, AnyView}, Effects.in_mask, Calls.Leads}
-use Rattle.pas_steps.specs.Calls.{Fate, Kept, Gained, Lost, now, later, Effect, nothing, put, freed, on_page, and_then, ClearAfter, Bears, Does, grain_fate}
-use Rattle.pas_steps.specs.{Calls.{way_fate, right_fate, opens, step_effect}, Views.{View, Move, Stays, Puts, Ends, grain_move, held_after, holds, Way, way}}
-use Rattle.pas_steps.specs.Views.{had_after, right_after, has_right, known_deed, unstamped_after, check_after, owes_check, hint_after, owes_hint}
-use Rattle.pas_steps.specs.{Views.{examined_after, examines}, declared.step.{Made.Made, Step.{Step, TheVariants.{Look, Take, Put, End, Hint, Unhint}}}}
-use Rattle.pas_steps.specs.{Frames.{IsReturn, OnlyOn, OnlyReturns, unbacks, IsOnPage}, Kinds.{Kinds, kind_of, look_kind, place_of, is_in, apart, Only}}
-use Rattle.pas_steps.{specs.Kinds.{Unhinting, moving, unbacking, changing, returning, Putting, Ending, Parking}, proofs.Adding.{agreed_first, agreed_later}}
-use Rattle.pas_steps.proofs.{Flags.{ends_none, ap_if}, Past.always_map, Apart.{in_apart, holds_over, grain_same, holds_same}, Frames.{look_hint, right_on}}
-use Rattle.pas_steps.proofs.Frames.{returns_on, backed_with}
+use Rattle.pas_steps.specs.Calls.{Fate, Kept, Lost, now, later, Effect, nothing, put, freed, on_page, and_then, ClearAfter, Bears, Does, grain_fate, right_fate}
+use Rattle.pas_steps.specs.{Calls.{opens, step_effect}, Views.{View, Stays, Puts, Ends, grain_move, held_after, holds, right_after, has_right, known_deed}}
+use Rattle.pas_steps.specs.{Views.{unstamped_after, check_after, owes_check, hint_after, owes_hint, examines}, declared.step.{Made.Made, Step.Step}}
+use Rattle.pas_steps.specs.{declared.step.Step.TheVariants.{Put, End}, Frames.{IsReturn, OnlyOn, OnlyReturns, IsOnPage}, Kinds.{Kinds, kind_of, is_in, apart}}
+use Rattle.pas_steps.{specs.Kinds.{Only, Unhinting, moving, unbacking, changing, returning, Putting, Ending, Parking}, proofs.Adding.agreed_first}
+use Rattle.pas_steps.proofs.{Adding.agreed_later, Flags.{ends_none, ap_if}, Past.always_map, Apart.{in_apart, holds_over, grain_same, holds_same}}
+use Rattle.pas_steps.proofs.Frames.{look_hint, right_on, returns_on, backed_with}
 
 -- ---- two calls: the one place where their lists are put together
 pub leads_none : {f : Profile} {B : View → Type 0} {R : View → View → Type 0} → ((v : View) → B v → R v v) → Leads f B R []

@@ -1,9 +1,9 @@
 -- What an event says of the step that made it, and what holds of each event of steps.
-use Rattle.std.proofs.{Common.{arith, ◌≡◌, ℕ, Bool, true, if◌then◌else◌, List, [], ◌∷◌, ◌++◌, Option, Some, None, subst, eqb-true}, lemmas.Option.none-some}
-use Rattle.std.{proofs.lemmas.Option.{same_Some, cond_some}, specs.List.AllByRecursion}
+use Rattle.std.proofs.{Common.{arith, ◌≡◌, ℕ, Bool, true, if◌then◌else◌, List, [], ◌∷◌, Some, None, subst, eqb-true}, lemmas.Option.{none-some, same_Some}}
+use Rattle.std.{proofs.lemmas.Option.cond_some, specs.List.AllByRecursion}
 use Rattle.pas_profile.specs.declared.event.Event.{Event}
-use Rattle.pas_steps.specs.{Past.Always, Views.{View, epoch_of}, Events.{event_of, with_event, events_by, actor_of}, Kinds.{StepKind, kind_of, Deeding}}
-use Rattle.pas_steps.specs.{Kinds.{Backing, Giving, Ending, Unbacking}, declared.step.{Made.Made, Step.{Step, TheVariants.{Deed, Back}}}}
+use Rattle.pas_steps.specs.{Past.Always, Views.View, Events.{event_of, events_by, actor_of}, Kinds.{StepKind, kind_of, Deeding, Backing, Giving, Ending}}
+use Rattle.pas_steps.specs.{Kinds.Unbacking, declared.step.{Made.Made, Step.{Step, TheVariants.{Deed, Back}}}}
 
 -- ---- the step of an event
 -- which kind of step makes such an event

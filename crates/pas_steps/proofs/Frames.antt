@@ -7,11 +7,10 @@ use Rattle.pas_profile.specs.{declared.{event.Event.Event, directory.Directory.D
 use Rattle.pas_profile.proofs.Codecs.{deed_word_of-positive}
 use Rattle.pas_steps.specs.{declared.step.{Made.Made, Step.{Step, TheVariants.{Deed, TakeRight, Offer, Park, Unpark, Look}}}, Views.{View, Way, way, Rests}}
 use Rattle.pas_steps.specs.Views.{ByDeed, FromOffer, FromParked, ToOffer, ToParked, had_after, right_after, has_right, epoch_of, given_after, given_count}
-use Rattle.pas_steps.specs.Views.{Stays, grain_move, held_after, holds, deed_after, deed_after_look, known_deed, KnowsDeed, check_after, hint_after}
-use Rattle.pas_steps.specs.{Views.{examined_after, examines, any_below, holds_on, backed_after, backed_after_look, knows_backed}, Events.{event_of, with_event}}
-use Rattle.pas_steps.specs.{Events.{events_of, events_by}, Past.Always, Effects.in_mask, Agreement.{Agrees, Agreed}, Frames.{GivesUp, KeepsRight, IsOnPage}}
-use Rattle.pas_steps.{specs.Frames.{IsReturn, IsRead, IsScan, OnlyOn, OnlyReturns, OnlyReads, OnlyScans, IsLook, AreLooks, unbacks}, proofs.Flags.ends_none}
-use Rattle.pas_steps.proofs.{Flags.stays_set, Past.always_map}
+use Rattle.pas_steps.specs.Views.{Stays, grain_move, held_after, holds, deed_after, known_deed, KnowsDeed, hint_after, examined_after, examines, any_below}
+use Rattle.pas_steps.specs.{Views.{holds_on, backed_after, knows_backed}, Events.{event_of, with_event, events_of, events_by}, Past.Always, Effects.in_mask}
+use Rattle.pas_steps.specs.{Agreement.{Agrees, Agreed}, Frames.{GivesUp, KeepsRight, IsOnPage, IsReturn, IsRead, IsScan, OnlyOn, OnlyReturns, OnlyReads}}
+use Rattle.pas_steps.{specs.Frames.{OnlyScans, IsLook, AreLooks, unbacks}, proofs.{Flags.{ends_none, stays_set}, Past.always_map}}
 
 -- ---- events
 pub with_append : (o : Option Event) (xs ys : List Event) → with_event o (xs ++ ys) ≡ with_event o xs ++ ys

@@ -1,23 +1,15 @@
 -- An actor that has nothing: before its first step, and after calls that change nothing of what it holds, has and owes.
-use Rattle.std.proofs.Common.{[], refl, ◌∙◌, List}
+use Rattle.std.proofs.Common.{arith, [], List}
 use Rattle.pas_steps.specs.{Calls.{nothing, Does, Calls}, Clear.{IsClear, HasNothing}, Desks.{Standing, CanCall}, Views.View, declared.step.Made.Made}
 use Rattle.pas_steps.proofs.{Called.{call_as, next_call}, Calls.still_clear}
 
 -- an actor that made no step has nothing
 pub nothing_yet : HasNothing []
-nothing_yet = record {
-  grains = λ g. refl;
-  rights = λ page. refl;
-  clear = record { on = λ page. record { stamped = refl; owes = record { checks = λ word small. refl; hint = refl }; examined = refl } };
-}
+nothing_yet = search arith
 
 -- one that had nothing, and of whose grains, rights and debts nothing was changed, has nothing still
 pub nothing_still : {v w : View} → Does nothing v w → HasNothing v → HasNothing w
-nothing_still does none = record {
-  grains = λ g. does.held g ∙ none.grains g;
-  rights = λ page. does.right page ∙ none.rights page;
-  clear = still_clear does none.clear;
-}
+nothing_still does none = search (arith, still_clear)
 
 -- so calls of a clear actor that change nothing are calls after which one that had nothing has nothing
 pub calls_rest : {σ σ' : Standing} {steps : List Made} → Calls σ σ' IsClear (Does nothing) steps → Calls σ σ' HasNothing (λ v w. HasNothing w) steps

@@ -1,10 +1,10 @@
 -- Notes after one more step.
-use Rattle.std.proofs.Common.{◌≡◌, ℕ, ◌+◌, ◌-◌, ◌^◌, min, List, [], ◌∷◌, ◌++◌, length, drop, reverse, Option, None, Some, ap, ◌∙◌, sym, subst, arith}
-use Rattle.std.proofs.{Common.{append-nil, append_assoc, length-append}, lemmas.List.{reverse-append, length-reverse}, Math.Seq.drop-append_seam}
+use Rattle.std.proofs.Common.{◌≡◌, ℕ, ◌+◌, ◌-◌, ◌^◌, min, List, [], ◌∷◌, ◌++◌, length, reverse, Option, None, Some, ap, ◌∙◌, sym, subst, arith, append-nil}
+use Rattle.std.proofs.{Common.{append_assoc, length-append}, lemmas.List.{reverse-append, length-reverse}, Math.Seq.drop-append_seam}
 use Rattle.std.specs.Option.{option_to_list}
 use Rattle.pas_profile.specs.{declared.event.Event.Event, Rooms.shown}
-use Rattle.pas_steps.specs.{Events.{event_of, events_of, with_event}, Desks.made, Views.{View, epoch_after, epoch_of, known_epoch, or_zero}}
-use Rattle.pas_steps.specs.{declared.{step.Step.Step, notes.Notes.Notes}, Noted.{events_noted, count_of_notes, epoch_noted, AreNotesOf, IsNoted, ShowsRest}}
+use Rattle.pas_steps.specs.{Events.{event_of, events_of, with_event}, Desks.made, Views.{View, epoch_of, known_epoch, or_zero}, declared.step.Step.Step}
+use Rattle.pas_steps.specs.{declared.notes.Notes.Notes, Noted.{events_noted, epoch_noted, AreNotesOf, IsNoted, ShowsRest}}
 
 shown_next : (o : Option Event) (shown es : List Event) → shown ≡ reverse es → shown ++ option_to_list o ≡ reverse (with_event o es)
 shown_next None shown es h = append-nil shown ∙ h
@@ -12,11 +12,7 @@ shown_next (Some e) shown es h = ap (λ r. r ++ e ∷ []) h ∙ sym (reverse-app
 
 -- With one more event, as many are gone, and the new one is shown last.
 rest_next : (n : ℕ) (o : Option Event) (shown es : List Event) → ShowsRest n shown es → ShowsRest n (shown ++ option_to_list o) (with_event o es)
-rest_next n o shown es rest = record {
-  gone = rest.gone;
-  many = rest.many;
-  all = sym (append_assoc rest.gone shown (option_to_list o)) ∙ shown_next o (rest.gone ++ shown) es rest.all;
-}
+rest_next n o shown es rest = search (arith, append_assoc, shown_next)
 
 -- What is gone and what is shown are as many as all events.
 pub rest_length : {n : ℕ} {shown es : List Event} → ShowsRest n shown es → n + length shown ≡ length es
@@ -42,8 +38,4 @@ rest_noted n old new k s a v rest knows noted =
 
 -- Notes with one more step are those of the view with that step.
 pub notes_next : (old new : Notes) (k : ℕ) (s : Step) (a : ℕ) (v : View) → AreNotesOf k v old → IsNoted old new k s a → AreNotesOf k (made s a ∷ v) new
-notes_next old new k s a v are noted = record {
-  shown = noted.shown ∙ ap (λ e. events_noted old ++ option_to_list (event_of k (or_zero e) s a)) are.epoch ∙ shown_next _ _ (events_of k v) are.shown;
-  count = count_next (count_of_notes old) (count_of_notes new) (length v) (length (made s a ∷ v)) (omega arith) noted.count are.count;
-  epoch = noted.epoch ∙ ap (epoch_after s a) are.epoch;
-}
+notes_next old new k s a v are noted = search (arith, shown_next, count_next)

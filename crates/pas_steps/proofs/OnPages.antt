@@ -2,7 +2,7 @@
 use Rattle.std.proofs.Common.{◌≡◌, ℕ, zero, suc, ◌+◌, ◌-◌, ◌*◌, ◌^◌, ◌<◌, ◌≤◌, Bool, true, false, if◌then◌else◌, List, [], ◌∷◌, ◌++◌, length, get_or, replicate}
 use Rattle.std.proofs.{Common.{slice_index, slice_set, refl, ap, sym, ◌∙◌, arith, eq-eqb, get_or-set_same, get_or-set_other, vec_len}, Math.Nat.mul_comm}
 use Rattle.std.proofs.lemmas.{Bool.and_from, List.get_or-replicate, Nat.{mul-add-lt, same_from_place}}
-use Rattle.pas_profile.specs.{Profiles.{vector_words, IsWordIn}, Layouts.{opening, same_word, word_minor, word_major}, declared.word.{Layout.Layout, Word.Word}}
+use Rattle.pas_profile.specs.{Profiles.{vector_words, IsWordIn}, Layouts.{opening, same_word, word_minor, word_major}, declared.word.Word.Word}
 use Rattle.pas_profile.proofs.Places.{same_word-true}
 use Rattle.pas_steps.specs.{Paged.{no_lives, opening_page, value_in}, States.{IsUnusedAbove, profile_of}, Keeping.kept_value, declared.state.Kept.Kept}
 use Rattle.pas_steps.specs.declared.{state.State.State, paged.{PageWords.PageWords, PagedWords.PagedWords}}
@@ -56,18 +56,13 @@ pub opened_one : (old new : PagedWords) → new.layout ≡ old.layout → new.ep
     → new.lives.items ≡ old.lives.items ++ no_lives ∷ []
     → new.deeds ≡ old.deeds → new.parked ≡ old.parked → new.empty ≡ old.empty → new.eligible ≡ old.eligible → (w : Word) → value_in new w ≡ value_in old w
 opened_one old new layout epoch pages lives deeds parked empty eligible w =
-    let same : (i : ℕ) → get_or new.pages.items i opening_page ≡ get_or old.pages.items i opening_page =
-    λ i. ap (λ (ps : List PageWords). get_or ps i opening_page) pages ∙ one_more old.pages.items i opening_page in
-    let same_lives : (i : ℕ) → get_or new.lives.items i no_lives ≡ get_or old.lives.items i no_lives =
-    λ i. ap (λ (ls : List (List ℕ)). get_or ls i no_lives) lives ∙ one_more old.lives.items i no_lives in
-    grind (arith, same, same_lives)
+    search (arith, one_more)
 
 -- ---- after a write
 -- of the value that the word has
 pub rewritten : (words : PagedWords) (x w : Word) (n : ℕ) → value_in words x ≡ n → (same : Bool) → same_word x w ≡ same
     → value_in words w ≡ (if same then n else value_in words w)
-rewritten words x w n is true e = ap (value_in words) (sym (same_word-true x w e)) ∙ is
-rewritten words x w n is false e = refl
+rewritten words x w n is same e = search (arith, same_word-true)
 
 -- of a word of a directory's page vector, which stands in a row with those of all directories
 in_row : (row : List ℕ) (v heaps d j b i n : ℕ) → length row ≡ 23 * heaps * v → d < 23 * heaps → j < v → i < v → (same : Bool)
@@ -90,9 +85,7 @@ pub eligible_written : (old new : PagedWords) (d j n : ℕ) → IsWordIn old.lay
     → new.empty ≡ old.empty
     → new.eligible.items ≡ slice_set old.eligible.items (d * vector_words old.layout.pages + j) n
     → (w : Word) → IsWordIn old.layout.pages old.layout.heaps w → value_in new w ≡ (if same_word (Word.Eligible d j) w then n else value_in old w)
-eligible_written old new d j n of layout epoch pages lives deeds parked empty eligible (Word.Eligible b i) of' =
-    cc (in_row old.eligible.items _ old.layout.heaps d j b i n (omega (arith, old.eligible_sized, old.eligible.ok.0)) of.0 of.1 of'.1 _ refl)
-eligible_written old new d j n of layout epoch pages lives deeds parked empty eligible w of' = grind arith
+eligible_written old new d j n of layout epoch pages lives deeds parked empty eligible w of' = search (arith, in_row)
 
 -- ---- a region at rest
 -- nobody wrote to the words of a page that doesn't stand in memory
@@ -100,9 +93,7 @@ pub unused_paged : (state : State) (words : PagedWords) → state.words ≡ Kept
 unused_paged state words is = record {
   lives = λ page grain past of small.
       ap (λ (k : Kept). kept_value k (Word.Life page grain)) is ∙ life_past words page grain (omega (arith, past, words.pages.ok.0));
-  backed = λ page past of.
-      ap (λ (k : Kept). kept_value k (Word.Backed page)) is
-      ∙ (ap (λ (p : PageWords). p.backed) (past_all words.pages.items (page - 1) opening_page (omega (arith, past, words.pages.ok.0))));
+  backed = search (arith, past_all);
 }
 
 -- there are no pages above all

@@ -1,5 +1,5 @@
 -- The directory of a deed word that was read.
-use Rattle.std.proofs.Common.{◌≡◌, ℕ, Option, Some, ap, sym, ◌∙◌, subst}
+use Rattle.std.proofs.Common.{◌≡◌, ℕ, Option, Some, ap, ◌∙◌, subst}
 use Rattle.pas_profile.specs.{Directories.{deed_word_of, directory_read}, Profiles.{IsValid, IsDirectoryOf}, declared.directory.Directory.Directory}
 use Rattle.pas_profile.{specs.declared.profile.Profile.Profile, proofs.Codecs.{read-deed_word_of, directory_from_profile}}
 

@@ -3,12 +3,11 @@ use Rattle.std.proofs.Common.{ℕ, ◌+◌, ◌*◌, ◌/◌, ◌^◌, ◌<◌, 
 use Rattle.std.proofs.Common.{get_or-set_same, get_or-set_other, ◌==◌, [], ◌∷◌, get_or, set, take, Option, None, refl, ap, ◌∙◌, subst, inl, inr, eqb-true}
 use Rattle.std.proofs.{Common.{length-append, length-set, length-take-le, take_at, take-take, get_or-take}, lemmas.Bool.{eqb-false, cases_eq}}
 use Rattle.std.proofs.lemmas.List.{take-append-le, get_or_at, get_or_append_left}
-use Rattle.pas_profile.specs.{Profiles.{IsValid, vector_words, IsWordOf, IsWordIn}, declared.{profile.Profile.Profile, word.Word.Word}, Blocks.address_of}
-use Rattle.pas_profile.{specs.Layouts.{index_of, words_of, same_word}, proofs.{Codecs.number_lt, Places.{same_word-true, index_lt, other_place}}}
+use Rattle.pas_profile.specs.{Profiles.{IsValid, vector_words, IsWordOf, IsWordIn}, declared.{profile.Profile.Profile, word.Word.Word}, Layouts.index_of}
+use Rattle.pas_profile.{specs.Layouts.{words_of, same_word}, proofs.{Codecs.number_lt, Places.{same_word-true, index_lt, other_place}}}
 use Rattle.pas_steps.specs.{Allowed.{IsStepOf, Allowed}, Ranges.IsRanged, Effects.{target, new_value}, States.{profile_of, word_in}, Views.{View, epoch_after}}
-use Rattle.pas_steps.specs.{Views.{known_epoch, or_zero, epoch_of}, declared.step.Step.{Step, TheVariants.{Deed, Give, End, EndSized, TakeRight, Offer, Take}}}
-use Rattle.pas_steps.specs.{declared.{step.Step.TheVariants.{Put, Park, Unpark, Hint, Tick, Unhint}, state.State.State}, Lists.{Triple, Whole, part}}
-use Rattle.pas_steps.specs.{Lists.{word_after, IsNext, Legal}, Runs.{in_order, CanRun, IsOpening, IsAfter, IsStepped}}
+use Rattle.pas_steps.specs.{Views.{known_epoch, or_zero, epoch_of}, declared.{step.Step.Step, state.State.State}, Lists.{Triple, Whole, part, word_after}}
+use Rattle.pas_steps.specs.{Lists.{IsNext, Legal}, Runs.{in_order, CanRun, IsOpening, IsAfter, IsStepped}}
 
 -- ==== The numbers in a step of a region fit the words that they go into.
 
@@ -38,20 +37,7 @@ vector_has page pages low = omega arith
 
 -- only a block of no bytes may begin past the last page, and it isn't given
 pub target_of_region : (f : Profile) (v : View) (s : Step) → IsStepOf f s → Allowed f v s → IsWordOf f (target s)
-target_of_region f v (Deed page directory) of allowed = of.0
-target_of_region f v (Take page word mask) of allowed = (of.0.0, of.0.1, of.1)
-target_of_region f v (Put page word mask) of allowed = (of.0.0, of.0.1, of.1)
-target_of_region f v (Give block) of allowed = given_page (address_of block.name) block.room f.pages of.first of.last allowed.some
-target_of_region f v (End name guess) of allowed = ended_page (address_of name) f.pages of.0.0 of.0.1
-target_of_region f v (EndSized name room) of allowed = ended_page (address_of name) f.pages of.0.0.0 of.0.0.1
-target_of_region f v (TakeRight page directory) of allowed = (number_lt directory f.heaps of.1.heap of.1.kind, vector_has page f.pages of.0.1)
-target_of_region f v (Offer page directory) of allowed = (number_lt directory f.heaps of.1.heap of.1.kind, vector_has page f.pages of.0.1)
-target_of_region f v (Park page) of allowed = vector_has page f.pages of.1
-target_of_region f v (Unpark page) of allowed = vector_has page f.pages of.1
-target_of_region f v (Hint page) of allowed = vector_has page f.pages of.1
-target_of_region f v (Tick raised) of allowed = tt
-target_of_region f v (Unhint page) of allowed = vector_has page f.pages of.1
-target_of_region f v s of allowed = of
+target_of_region f v s of allowed = search (arith, given_page, ended_page, number_lt, vector_has)
 
 -- ==== The words of a state after a write of one.
 
@@ -87,14 +73,7 @@ length_next l t = length-append (in_order l) (made_by t ∷ []) ∙ omega arith
 step_in : (f : Profile) (l : Whole) (i : ℕ) (d : ℕ × Step) → Legal f l → i < length (in_order l) → IsStepAt f (in_order l) i (get_or (in_order l) i d)
 step_in f [] i d legal lt = absurd (omega (arith, lt))
 step_in f (t ∷ l) i d legal lt = elim (cases_eq i (length (in_order l))) [
-  | inl e ↦ record {
-    before = l;
-    legal = legal.1;
-    steps_are = sym (take_at (in_order l) (made_by t ∷ []) i (sym e));
-    triple = t;
-    next = legal.0;
-    made = sym (get_or_at (in_order l) (made_by t) [] d i (sym e));
-  }
+  | inl e ↦ search (arith, take_at, get_or_at)
   | inr ne ↦
       let less : i < length (in_order l) = omega (arith, lt, ne, length_next l t) in
       let found : IsStepAt f (in_order l) i (get_or (in_order l) i d) = step_in f l i d legal.1 less in
@@ -115,9 +94,7 @@ step_at f steps i d can lt = rw can.steps_are at (step_in f can.whole i d can.le
 -- what the step may rely on
 pub at_actor : (f : Profile) (steps : Steps) (i : ℕ) (x : ℕ × Step) → IsValid f → IsStepAt f steps i x → x.0 < 17
 at_actor f steps i x valid at =
-    let threads : f.threads ≤ 16 = valid.threads in
-    let same : at.triple.actor ≡ x.0 = ap (λ (y : ℕ × Step). y.0) at.made in
-    omega (arith, at.next.actor, threads, same)
+    search arith
 
 -- The numbers of a step of such a list fit their places.
 pub at_ranged : (f : Profile) (steps : Steps) (i : ℕ) (x : ℕ × Step) → IsValid f → IsStepAt f steps i x → IsRanged x.1
@@ -200,12 +177,7 @@ next_words f steps i d old new epochs known lt far did [] legal is w of =
     let none : 0 ≡ length (take (i + 1) steps) = ap length is in
     absurd (omega (arith, length-take-le (i + 1) steps (omega (arith, lt)), none))
 next_words f steps i d old new epochs known lt far did (t ∷ l) legal is w of =
-    let parts : IsSplit steps i d l t = split steps i d l t lt is in
-    let here : IsStep f old new epochs known (made_by t) = subst (IsStep f old new epochs known) (sym parts.made) did in
-    let at : word_in old (target t.made.step) ≡ word_after l (target t.made.step) = far.words l legal.1 parts.before (target t.made.step) here.of_region in
-    let epoch : or_zero known ≡ epoch_of (part t.actor l) = ap or_zero (sym here.known_is ∙ far.epochs_are l legal.1 parts.before t.actor here.actor) in
-    here.stepped.words w (subst (λ (g : Profile). IsWordOf g w) (sym far.profile) of)
-    ∙ value_next old new l t (or_zero known) w epoch at (far.words l legal.1 parts.before w of) (same_word (target t.made.step) w) refl
+    search (arith, split, value_next)
 
 next_epochs : (f : Profile) (steps : Steps) (i : ℕ) (d : ℕ × Step) (old new : State) (epochs : List (Option ℕ)) (known : Option ℕ) → i < length steps
     → IsSoFar f steps i old epochs
@@ -216,15 +188,7 @@ next_epochs f steps i d old new epochs known lt far did [] legal is k small =
     let none : 0 ≡ length (take (i + 1) steps) = ap length is in
     absurd (omega (arith, length-take-le (i + 1) steps (omega (arith, lt)), none))
 next_epochs f steps i d old new epochs known lt far did (t ∷ l) legal is k small =
-    let parts : IsSplit steps i d l t = split steps i d l t lt is in
-    let here : IsStep f old new epochs known (made_by t) = subst (IsStep f old new epochs known) (sym parts.made) did in
-    let at : word_in old (target t.made.step) ≡ word_after l (target t.made.step) = far.words l legal.1 parts.before (target t.made.step) here.of_region in
-    let kept : known ≡ known_epoch (part t.actor l) = sym here.known_is ∙ far.epochs_are l legal.1 parts.before t.actor here.actor in
-    let actors : length epochs ≡ 17 = far.actors in
-    let lower : t.actor < 17 = here.actor in
-    ap (λ (x : ℕ × Step). get_or (set epochs x.0 (epoch_after x.1 (word_in old (target x.1)) known)) k None) (sym parts.made)
-    ∙ epoch_next l t epochs _ k (omega (arith, actors, lower)) (far.epochs_are l legal.1 parts.before k small)
-    (ap (λ (n : ℕ). epoch_after t.made.step n known) (at ∙ sym legal.0.answer_is) ∙ ap (epoch_after t.made.step t.made.answer) kept) (t.actor == k) refl
+    search (arith, split, epoch_next)
 
 -- After one step more a state has the words of the list so far, and the epochs that are known.
 pub so_far_next : (f : Profile) (steps : Steps) (i : ℕ) (d : ℕ × Step) (old new : State) (epochs : List (Option ℕ)) (known told : Option ℕ) → IsValid f

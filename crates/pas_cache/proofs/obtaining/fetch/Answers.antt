@@ -1,4 +1,3 @@
-use Rattle.std.proofs.Common.{Ok, Err}
 use Rattle.pas_cache.proofs.Obtained.{obtain_after, filling_then, obtains_refilled, search_call}
 use Rattle.pas_cache.proofs.obtaining.fetch.Goals as goal
 

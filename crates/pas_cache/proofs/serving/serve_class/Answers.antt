@@ -2,8 +2,8 @@ use Rattle.std.proofs.Common.{sym, subst}
 use Rattle.pas_bits.specs.Masks.{HasMember}
 use Rattle.pas_steps.specs.Desks.{CanCall}
 use Rattle.pas_segregated.specs.declared.slots.Slots.{Slots}
-use Rattle.pas_cache.{specs.{Parts.{MayGiveSlot, GivesLowest}, Serves.filling_in}, proofs.{Resting.{last_is, last_set}, Obtained.obtain_rests}}
-use Rattle.pas_cache.proofs.Alone.{fewer_room, room_to_give, give_call, serves_given, serves_none}
+use Rattle.pas_cache.{specs.{Parts.MayGiveSlot, Serves.filling_in}, proofs.{Resting.{last_is, last_set}, Obtained.obtain_rests, Alone.fewer_room}}
+use Rattle.pas_cache.proofs.Alone.{room_to_give, give_call, serves_given, serves_none}
 use Rattle.pas_cache.proofs.serving.serve_class.Goals as goal
 
 pub obtain-requires-clause-can : goal.obtain-requires-clause-can
@@ -34,6 +34,5 @@ returns-in-Ok-clause-serves g c =
     let value = c.deref_mut.ensures.value in
     let long = c.len-last.ensures.value in
     serves_given _ g.D.Desk.tells _ _ _ o.slots c.give_lowest.new.slots _ (obtain_rests c.requires.can) o.obtains
-    (subst (λ (s : Slots). GivesLowest s c.give_lowest.new.slots c.give_lowest.result (g.D.Desk.standing c.obtain.new.desk)
-    (g.D.Desk.standing c.give_lowest.new.desk)) (last_is o.fewer o.slots _ value o.last long) c.give_lowest.ensures.gives)
+    (rw (last_is o.fewer o.slots _ value o.last long) at c.give_lowest.ensures.gives)
     (last_set o.fewer o.slots _ value o.last long)

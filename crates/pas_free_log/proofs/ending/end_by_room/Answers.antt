@@ -1,7 +1,6 @@
-use Rattle.std.proofs.Common.{◌/◌, ◌++◌, refl, sym, ◌∙◌}
+use Rattle.std.proofs.Common.{refl, sym, ◌∙◌}
 use Rattle.pas_steps.proofs.Adding.{can_step}
-use Rattle.pas_free_log.{specs.declared.ending.Outcome.TheVariants.{Ended, Refused}, proofs.OneEntry.{looked, ended_run, ends_by_room, room_end, some_room}}
-use Rattle.pas_free_log.proofs.OneEntry.{refused_by_room}
+use Rattle.pas_free_log.proofs.OneEntry.{looked, ended_run, ends_by_room, room_end, some_room, refused_by_room}
 use Rattle.pas_free_log.proofs.ending.end_by_room.Goals as goal
 
 pub end_sized-read-requires-clause-can : goal.end_sized-read-requires-clause-can

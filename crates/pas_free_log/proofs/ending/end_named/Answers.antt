@@ -1,7 +1,7 @@
 use Rattle.std.proofs.Common.{[], ◌∷◌, ◌++◌, refl, ap, sym, ◌∙◌, inl, arith}
 use Rattle.pas_steps.specs.{declared.step.Step.TheVariants.End, Desks.made}
-use Rattle.pas_free_log.{specs.{declared.ending.Outcome.TheVariants.{Ended, Refused}, Endings.guess_by}, proofs.OneEntry.{known_kind, guess_length, looked}}
-use Rattle.pas_free_log.proofs.OneEntry.{tried, ends_named, ended_run, gone_since, ended_again, again, first_look}
+use Rattle.pas_free_log.{specs.Endings.guess_by, proofs.OneEntry.{known_kind, guess_length, looked, tried, ends_named, ended_run, gone_since, ended_again}}
+use Rattle.pas_free_log.proofs.OneEntry.{again, first_look}
 use Rattle.pas_free_log.proofs.ending.end_named.Goals as goal
 
 pub guess-first-requires : goal.guess-first-requires

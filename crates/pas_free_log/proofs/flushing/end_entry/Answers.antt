@@ -1,8 +1,7 @@
 use Rattle.std.proofs.Common.{List, length, ap, sym, subst}
 use Rattle.pas_profile.specs.{declared.event.Event.Event, Blocks.grain_of}
 use Rattle.pas_steps.proofs.{Called.next_call, SpareRoom.spare_falls}
-use Rattle.pas_free_log.{specs.{Conditions.{MayEnd, IsRun}, declared.ending.Outcome.TheVariants.{Ended, Refused}}, proofs.OneEntry.{came_to, ended_call}}
-use Rattle.pas_free_log.proofs.OneEntry.{entry_ended, entry_refused}
+use Rattle.pas_free_log.{specs.Conditions.{MayEnd, IsRun}, proofs.OneEntry.{came_to, ended_call, entry_ended, entry_refused}}
 use Rattle.pas_free_log.proofs.flushing.end_entry.Goals as goal
 
 pub end_logged-outcome-requires-clause-can : goal.end_logged-outcome-requires-clause-can

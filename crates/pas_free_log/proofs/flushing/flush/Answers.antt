@@ -1,8 +1,7 @@
-use Rattle.std.proofs.Common.{◌≡◌, [], ◌∷◌, ◌++◌, get_or, refl, sym, ◌∙◌, subst, arith, append_assoc, take_all}
-use Rattle.pas_profile.specs.{declared.{entry.Entry.Entry, word.Word.Word}, Entries.entry_of}
-use Rattle.pas_steps.specs.{declared.step.Step.TheVariants.Look, Views.{View, epoch_of}, Events.events_by, Calls.{nothing, Does, Calls}, Kinds.LookEpoch}
-use Rattle.pas_steps.{specs.Clear.IsClear, proofs.{Apart.only_both, Calls.{does_none, does_then}, SpareRoom.spare_falls, Called.{call_none, call_idly}}}
-use Rattle.pas_steps.proofs.Called.{call_then, next_call}
+use Rattle.std.proofs.Common.{◌≡◌, [], ◌∷◌, ◌++◌, get_or, refl, ◌∙◌, subst, arith, append_assoc, take_all}
+use Rattle.pas_profile.specs.{declared.entry.Entry.Entry, Entries.entry_of}
+use Rattle.pas_steps.{specs.{Views.{View, epoch_of}, Events.events_by, Kinds.LookEpoch, Clear.IsClear}, proofs.{Apart.only_both, Calls.{does_none, does_then}}}
+use Rattle.pas_steps.proofs.{SpareRoom.spare_falls, Called.{call_none, call_idly, call_then, next_call}}
 use Rattle.pas_free_log.{specs.{Frames.ending, Flushes.{Settled, event_for}}, proofs.AllEntries.{events_more, stamps_more, entries_more, noted_more}}
 use Rattle.pas_free_log.proofs.AllEntries.{noted_none, ranges_more, may_end, flushed}
 use Rattle.pas_free_log.proofs.flushing.flush.Goals as goal
@@ -49,8 +48,7 @@ loop-entry-preserved g c =
       ranges = λ are. ranges_more _ _ _ c.note.ensures s.range (i.ranges are);
       entries = s.steps ++ i.entries;
       order = (s.steps, i.entries, s.order, i.order, refl);
-      calls = subst (λ xs. Calls σ (D.standing c.end_entry-run.new.desk) IsClear (Does nothing) xs) (sym (append_assoc s.steps i.entries _))
-          (call_then _ i.calls s.calls (λ v met d. may_end i.epoch i.entries v i.kinds d met) (λ v met d e. does_then d e));
+      calls = rw append_assoc (call_then _ i.calls s.calls (λ v met d. may_end i.epoch i.entries v i.kinds d met) (λ v met d e. does_then d e));
       kinds = only_both ending s.steps i.entries s.kinds i.kinds;
       events = events_more σ.seat.actor i.epoch entry i.settled s.steps i.entries i.kinds i.events event;
       stamps = stamps_more i.epoch entry i.settled s.steps i.entries i.kinds i.stamps s.stamps;

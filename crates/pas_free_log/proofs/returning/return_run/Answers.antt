@@ -1,7 +1,7 @@
-use Rattle.std.proofs.Common.{◌≡◌, ◌-◌, [], ◌++◌, refl, sym, ◌∙◌, subst, arith}
+use Rattle.std.proofs.Common.{◌≡◌, ◌-◌, [], ◌++◌, refl, ◌∙◌, subst, arith}
 use Rattle.pas_steps.{specs.Calls.{Does, Calls}, proofs.Called.{call_none, call_then, next_call}}
-use Rattle.pas_free_log.specs.{Conditions.IsRunOnPage, Frames.{run_freed, PutsBack}, Stamps.page_count, Returns.{MayReturn, PagesSteps}}
-use Rattle.pas_free_log.proofs.OneEntry.{back_none, none_freed, next_is, back_more, more_freed, order_more, may_more, on_page}
+use Rattle.pas_free_log.{specs.{Frames.{run_freed, PutsBack}, Stamps.page_count, Returns.{MayReturn, PagesSteps}}, proofs.OneEntry.{back_none, none_freed}}
+use Rattle.pas_free_log.proofs.OneEntry.{next_is, back_more, more_freed, order_more, may_more, on_page}
 use Rattle.pas_free_log.proofs.returning.return_run.Goals as goal
 
 pub loop-from-init : goal.loop-from-init
@@ -25,9 +25,7 @@ return_page-requires-clause-can g c =
 
 pub return_page-requires-clause-run : goal.return_page-requires-clause-run
 return_page-requires-clause-run g c =
-    let i = c.loop-from.invariant in let from = c.loop-from.from in let next = c.min-next.result in let f = (g.D.Desk.standing c.args.desk.now).seat.profile in
-    subst (λ s. IsRunOnPage s.profile from (next - from)) (sym i.calls.adds.seat_is)
-    (on_page f _ _ from next c.requires.run i.low c.loop-from-test.true (next_is _ _ from next i.low c.loop-from-test.true c.min-next.ensures))
+    search (arith, on_page, next_is)
 
 pub loop-from-preserved : goal.loop-from-preserved
 loop-from-preserved g c =

@@ -1,4 +1,3 @@
-use Rattle.std.proofs.Common.{◌+◌}
 use Rattle.pas_large.proofs.{Allocates.{can_give_named, region_named, room_named, can_scan, serves_named, scans_after}, Finds.may_find}
 use Rattle.pas_large.proofs.allocating.alloc.Goals as goal
 

@@ -21,7 +21,6 @@ pub loop-first-preserved : goal.loop-first-preserved
 loop-first-preserved g c = let i = c.loop-first.invariant in record {
   low = omega arith;
   so_far = goes_on i.so_far i.low c.in-Some.ensures.found (may_find c.requires.can) c.in-Some-claim_run.page c.in-Some-claim_run.ensures.claims;
-  alone = never_alone i.so_far i.low c.in-Some.ensures.found tt (g.met.D.Desk.valid c.args.desk.now)
-      (may_find c.requires.can) c.in-Some-claim_run.page c.in-Some-claim_run.ensures.claims;
+  alone = search (arith, never_alone, g.met.D.Desk.valid);
   home = c.in-Some-claim_run.ensures.home ∙ c.in-Some.ensures.home ∙ i.home;
 }

@@ -1,6 +1,6 @@
 use Rattle.std.proofs.Common.{◌+◌, ◌-◌, ◌≤◌, subst, sym, refl, ◌∙◌, arith}
 use Rattle.pas_search.proofs.ForBackEnds.{room_after}
-use Rattle.pas_large.{specs.Gives.BacksRun, proofs.{Claims.pages_call, Left.backs_few, Gives.{backed_none, can_back_next, backed_more, back_events}}}
+use Rattle.pas_large.proofs.{Claims.pages_call, Left.backs_few, Gives.{backed_none, can_back_next, backed_more, back_events}}
 use Rattle.pas_large.proofs.giving.back_run.Goals as goal
 
 pub loop-page-init : goal.loop-page-init
@@ -22,5 +22,4 @@ loop-page-preserved g c = let i = c.loop-page.invariant in
     record { so_far = backed_more _ i.so_far c.loop-page.auto.page (omega arith) refl _ c.back_page.ensures.backs.1; home = c.back_page.ensures.home ∙ i.home }
 
 pub returns-clause-backs : goal.returns-clause-backs
-returns-clause-backs g c = let past = c.loop-page-test.false in let most = c.loop-page.auto.page-end c.requires.span in
-    subst (λ p. BacksRun c.args.directory c.args.first p (g.D.Desk.standing c.args.desk.now) (g.D.Desk.standing c.loop-page.desk)) (omega (arith, past, most)) c.loop-page.invariant.so_far
+returns-clause-backs g c = search (arith, c.loop-page.auto.page-end)

@@ -1,4 +1,4 @@
-use Rattle.std.proofs.Common.{◌≤◌, ◌+◌, ◌-◌, ◌<◌, sym, subst, arith}
+use Rattle.std.proofs.Common.{◌-◌, ◌<◌, sym, subst, arith}
 use Rattle.pas_search.proofs.ForBackEnds.{room_after}
 use Rattle.pas_large.proofs.{Gives.{can_give, back_events, can_leave_run, gives_run}, Left.backs_few}
 use Rattle.pas_large.proofs.giving.give_run.Goals as goal
@@ -7,8 +7,7 @@ pub give-block-requires-clause-heap : goal.give-block-requires-clause-heap
 give-block-requires-clause-heap g c = subst (λ s. c.args.directory.heap < s.profile.heaps) (sym c.back_run.ensures.backs.calls.adds.seat_is) c.requires.directory.heap
 
 pub give-block-requires-clause-within : goal.give-block-requires-clause-within
-give-block-requires-clause-within g c = let high =
-    subst (λ s. c.args.first + c.args.pages ≤ s.profile.pages + 1) (sym c.back_run.ensures.backs.calls.adds.seat_is) c.requires.region in omega (arith, high)
+give-block-requires-clause-within g c = search arith
 
 pub give-block-requires-clause-can : goal.give-block-requires-clause-can
 give-block-requires-clause-can g c = can_give c.args.directory c.args.first c.args.pages c.back_run.ensures.backs c.requires.directory c.requires.can

@@ -1,5 +1,5 @@
-use Rattle.std.proofs.Common.{refl, ◌∙◌, subst, arith}
-use Rattle.pas_large.{specs.Gives.LeavesRun, proofs.Gives.{left_run_none, can_leave_next, left_run_more}}
+use Rattle.std.proofs.Common.{refl, ◌∙◌, arith}
+use Rattle.pas_large.proofs.Gives.{left_run_none, can_leave_next, left_run_more}
 use Rattle.pas_large.proofs.giving.leave_run.Goals as goal
 
 pub loop-page-init : goal.loop-page-init
@@ -13,5 +13,4 @@ loop-page-preserved g c = let i = c.loop-page.invariant in
     record { so_far = left_run_more c.loop-page.auto.page i.so_far c.leave.ensures.leaves; home = c.leave.ensures.home ∙ i.home }
 
 pub returns-clause-leaves : goal.returns-clause-leaves
-returns-clause-leaves g c = let past = c.loop-page-test.false in let most = c.loop-page.auto.page-end c.requires.span in
-    subst (λ p. LeavesRun c.args.directory c.args.first p (g.D.Desk.standing c.args.desk.now) (g.D.Desk.standing c.loop-page.desk)) (omega (arith, past, most)) c.loop-page.invariant.so_far
+returns-clause-leaves g c = search (arith, c.loop-page.auto.page-end)

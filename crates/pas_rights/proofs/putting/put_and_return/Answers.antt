@@ -1,4 +1,4 @@
-use Rattle.std.proofs.{Common.arith, lemmas.Bool.{MatchBool-at_true, MatchBool-at_false}}
+use Rattle.std.proofs.{Common.arith, lemmas.Bool.MatchBool-at_false}
 use Rattle.pas_bits.specs.Masks.{IsEmpty, HasMember}
 use Rattle.pas_rights.proofs.Puts.{puts_nothing, may_return, puts_some}
 use Rattle.pas_rights.proofs.putting.put_and_return.Goals as goal

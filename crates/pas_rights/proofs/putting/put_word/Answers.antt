@@ -1,4 +1,4 @@
-use Rattle.std.proofs.Common.{arith, [], ◌∷◌, refl, inl, inr}
+use Rattle.std.proofs.Common.{arith, [], ◌∷◌, refl, inr}
 use Rattle.pas_steps.{specs.{Desks.made, declared.step.Step.TheVariants.Put}, proofs.{Adding.{adds_none, adds_step}, Called.call_none, Calls.leads_put}}
 use Rattle.pas_steps.proofs.Calls.{leads_as}
 use Rattle.pas_rights.proofs.Puts.{word_none}

@@ -1,6 +1,5 @@
-use Rattle.std.proofs.Common.{◌≡◌, refl, subst, ◌∙◌, add-one, arith}
-use Rattle.pas_steps.{specs.Desks.{AnyView, Adds}, proofs.Adding.{adds_none, adds_step, can_step}}
-use Rattle.pas_rights.specs.{Looks.looks, Words.ones}
+use Rattle.std.proofs.Common.{refl, add-one, arith}
+use Rattle.pas_steps.proofs.Adding.{adds_none, adds_step, can_step}
 use Rattle.pas_rights.proofs.reading.first_used.Goals as goal
 
 pub loop-word-init : goal.loop-word-init
@@ -10,10 +9,7 @@ pub look-value-requires-clause-can : goal.look-value-requires-clause-can
 look-value-requires-clause-can g c = search (arith, can_step)
 
 pub loop-word-preserved : goal.loop-word-preserved
-loop-word-preserved g c = let D = g.D.Desk in let i = c.loop-word.invariant in record {
-  adds = search (arith, add-one, adds_step);
-  home = c.look-value.ensures.home ∙ i.home;
-}
+loop-word-preserved g c = search (arith, add-one, adds_step)
 
 pub returns-then-value-clause-reads : goal.returns-then-value-clause-reads
 returns-then-value-clause-reads g c = search (arith, adds_step)

@@ -1,4 +1,4 @@
-use Rattle.std.proofs.Common.{[], None, Some, refl}
+use Rattle.std.proofs.Common.{[], None, refl}
 use Rattle.pas_steps.proofs.Adding.{adds_none}
 use Rattle.pas_rights.proofs.Orders.{returned_by}
 use Rattle.pas_rights.proofs.returning.returned.Goals as goal

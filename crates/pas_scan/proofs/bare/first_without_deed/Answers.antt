@@ -1,24 +1,12 @@
-use Rattle.std.proofs.Common.{◌≡◌, ◌+◌, ◌-◌, ◌∷◌, ap, sym, ◌∙◌, subst, arith}
+use Rattle.std.proofs.Common.{◌≡◌, ◌+◌, ◌-◌, ◌∷◌, ap, ◌∙◌, arith}
 use Rattle.pas_profile.specs.declared.word.Word.{Word}
-use Rattle.pas_steps.specs.{declared.step.{Made.Made, Step.TheVariants.Look}, Frames.IsScan, Desks.made, Past.Once, Evidence.DeedHere}
-use Rattle.pas_steps.proofs.Adding.{adds_step}
+use Rattle.pas_steps.{specs.{declared.step.{Made.Made, Step.TheVariants.Look}, Frames.IsScan, Desks.made}, proofs.Adding.adds_step}
 use Rattle.pas_scan.proofs.Reading.{looks_more, looks_count, looks_scan, looks_single, deed_more, deeds_read, first_none}
 use Rattle.pas_scan.proofs.bare.first_without_deed.Goals as goal
 
 pub loop-page-init : goal.loop-page-init
 loop-page-init g c =
-    let h = c.pass_deeds-first.ensures.passes in
-    let pages : c.profile.result.now.pages ≡ (g.D.Desk.standing c.args.desk.now).seat.profile.pages = ap (λ f. f.pages) c.profile.ensures in
-    record {
-      steps = h.steps;
-      adds = h.adds;
-      deeds = λ p low high. subst (λ xs. Once (DeedHere p) xs) (sym h.order) (deeds_read c.args.from h.answers h.others p low (omega (arith, h.at, high)));
-      answers = h.answers;
-      order = h.order;
-      at = h.at;
-      few = omega (arith, h.few, pages);
-      home = c.pass_deeds-first.ensures.home;
-    }
+    search (arith, deeds_read)
 
 pub returns-then-deed-eq0-clause-found : goal.returns-then-deed-eq0-clause-found
 returns-then-deed-eq0-clause-found g c =

@@ -1,7 +1,7 @@
-use Rattle.std.proofs.Common.{◌≡◌, ◌+◌, ◌-◌, ◌/◌, ◌*◌, ◌++◌, refl, ap, ◌∙◌, arith, length-append}
-use Rattle.pas_profile.specs.{Directories.number_of, declared.profile.Profile.Profile}
+use Rattle.std.proofs.Common.{◌≡◌, ◌+◌, ◌-◌, ◌/◌, ◌++◌, refl, ap, ◌∙◌, arith, length-append}
+use Rattle.pas_profile.specs.declared.profile.Profile.{Profile}
 use Rattle.pas_steps.{specs.Desks.AnyView, proofs.Adding.adds_call}
-use Rattle.pas_scan.{specs.Rows.words_to, proofs.Reading.{count_of, scans_of, single_of, row_after, shown_within, row_zeros, row_one, words_later, zeros_later}}
+use Rattle.pas_scan.proofs.Reading.{count_of, scans_of, single_of, row_after, shown_within, row_zeros, row_one, words_later, zeros_later}
 use Rattle.pas_scan.proofs.offered.first_offered.Goals as goal
 
 pub loop-block-preserved : goal.loop-block-preserved

@@ -1,9 +1,8 @@
-use Rattle.std.proofs.Common.{◌≡◌, ◌+◌, ◌*◌, ◌/◌, ◌≤◌, ◌==◌, ◌&&◌, ◌||◌, min, ◌∷◌, length, refl, ap, sym, ◌∙◌, subst, arith}
-use Rattle.pas_bits.specs.PageVectors.{is_in_word}
+use Rattle.std.proofs.Common.{◌≡◌, ◌+◌, ◌*◌, ◌/◌, ◌≤◌, min, ◌∷◌, length, refl, ap, sym, ◌∙◌, subst, arith}
 use Rattle.pas_profile.specs.declared.word.Word.{Word}
 use Rattle.pas_steps.{specs.{declared.step.{Made.Made, Step.TheVariants.Look}, Desks.made}, proofs.Adding.adds_step}
-use Rattle.pas_scan.{specs.{Scan.InBlock, Passed.NoneIs}, proofs.Reading.{Below, Members, AreOf, passed_in, passed_below, passed_members, looks_single}}
-use Rattle.pas_scan.proofs.Reading.{looks_count, single_more, below_more, members_more, IsSpan, span_block, span_first, span_some, span_end, span_page}
+use Rattle.pas_scan.{specs.Scan.InBlock, proofs.Reading.{Below, AreOf, passed_in, passed_below, passed_members, looks_single, looks_count, single_more}}
+use Rattle.pas_scan.proofs.Reading.{below_more, members_more, IsSpan, span_block, span_first, span_some, span_end, span_page}
 use Rattle.pas_scan.proofs.parked.members.Goals.{then-is_open, else-is_open}
 use Rattle.pas_scan.proofs.parked.members.Goals as goal
 
@@ -20,9 +19,7 @@ loop-page-init g c =
       deeds = subst (λ xs. InBlock c.args.block xs) (sym h.order) (passed_in c.args.block first h.answers at);
       single = looks_single (λ p. Word.Deed p) first (λ p q e. cc) h.steps h.answers h.order;
       below = subst (λ n. Below (n + n / 64) h.steps) h.at (subst (λ xs. Below (first + length h.answers + (first + length h.answers) / 64) xs) (sym h.order) (passed_below c.args.block first h.answers));
-      members = subst (λ n. Members f looked.unfit looked.directory c.args.block first n 0 h.steps) h.at
-          (subst (λ xs. Members f looked.unfit looked.directory c.args.block first (first + length h.answers) 0 xs) (sym h.order)
-          (passed_members c.args.block first f looked.unfit looked.directory h.answers (subst (λ n. NoneIs n h.answers) c.deed_word.ensures h.others) at));
+      members = search (arith, passed_members);
       count = ap (λ n. first + n) (looks_count (λ p. Word.Deed p) first (length h.answers) h.steps h.answers h.order refl) ∙ h.at;
       home = c.pass_deeds-start.ensures.home;
     }
@@ -38,12 +35,7 @@ loop-page-preserved g c =
       deeds = ((page, refl, at), i.deeds);
       single = single_more _ step i.steps i.below (omega arith) i.single;
       below = (omega arith, below_more _ _ i.steps (omega arith) i.below);
-      members = members_more (g.D.Desk.standing c.args.desk.now).seat.profile looked.unfit looked.directory _ _ page c.loop-page.members _ a i.steps i.members at (omega (arith, i.count))
-          (λ p e. elim c.if-is_open.branch [
-            | then-is_open w ↦ ap (λ m. is_in_word m p) w.members-is ∙ w.with_page-members.ensures p (e ∙ sym at)
-                ∙ ap (λ o. (o && (page == p)) || is_in_word c.loop-page.members p) (sym w.if-is_open.true ∙ c.is_open.ensures)
-            | else-is_open w ↦ ap (λ m. is_in_word m p) w.members-is ∙ ap (λ o. (o && (page == p)) || is_in_word c.loop-page.members p) (sym w.if-is_open.false ∙ c.is_open.ensures)
-          ]);
+      members = search (arith, members_more, then-is_open, else-is_open);
       count = omega (arith, i.count);
       home = c.look-deed.ensures.home ∙ i.home;
     }

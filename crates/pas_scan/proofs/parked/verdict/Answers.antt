@@ -1,4 +1,4 @@
-use Rattle.std.proofs.Common.{◌+◌, ◌*◌, ◌∷◌, ◌++◌, sym, ◌∙◌, subst, arith, length-append}
+use Rattle.std.proofs.Common.{◌+◌, ◌∷◌, ◌++◌, sym, ◌∙◌, subst, arith, length-append}
 use Rattle.pas_profile.specs.declared.{word.Word.Word, profile.Profile.Profile}
 use Rattle.pas_steps.{specs.{declared.step.Step.TheVariants.Look, Desks.made}, proofs.Adding.{adds_step, adds_call}}
 use Rattle.pas_scan.{specs.Scan.IsMember, proofs.Reading.{turn_scans, turn_below, turn_single, turn_kinds, scans_append, block_scans, parked_more}}
@@ -37,8 +37,7 @@ returns-in-Some-clause-judges g c =
       kinds = turn_kinds block a m.steps i.steps m.deeds i.kinds;
       few = (let n = length-append m.steps i.steps in omega (arith, n, m.few, i.few, e.here));
       verdict = (
-        λ v. member_joined f looked.unfit looked.directory block a page m.steps i.steps v (subst
-            (λ s. IsMember s.profile looked.unfit looked.directory (m.steps ++ (i.steps ++ v)) page) i.adds.seat_is (m.only (i.steps ++ v) page e.here bits.0)),
+        λ v. member_joined f looked.unfit looked.directory block a page m.steps i.steps v (rw i.adds.seat_is at (m.only (i.steps ++ v) page e.here bits.0)),
         held_here page block a (m.steps ++ i.steps) (scans_append m.steps i.steps (block_scans block m.steps m.deeds) i.scans) e.here bits.1,
         parked_more f looked.unfit looked.directory block page _ a m.steps i.steps c.look-parked.type_inv
             (scans_append m.steps i.steps (block_scans block m.steps m.deeds) i.scans) m.deeds i.parked

@@ -26,8 +26,4 @@ returns-then-other-page g c =
     let deeds = subst (λ n. KnowsDeeds tells σ n page c.min-stop.result c.in-Some-first_other_deed.other) c.deed_word-deed.ensures
     c.in-Some-first_other_deed.ensures in
     let held = held_in_block tells σ c.args.directory c.in-Some.offered c.args.from page c.min-stop.result c.in-Some-first_other_deed.other i.held told
-    (omega (arith, least, c.next_offered.ensures.in_block)) (λ p low high. c.next_offered.ensures.none p low (omega (arith, high, least))) deeds in record {
-      from_there = omega (arith, i.from_there, deeds.from_there);
-      within = omega (arith, deeds.within, least);
-      held = held;
-    }
+    (omega (arith, least, c.next_offered.ensures.in_block)) (λ p low high. c.next_offered.ensures.none p low (omega (arith, high, least))) deeds in search arith

@@ -1,4 +1,4 @@
-use Rattle.std.proofs.Common.{◌≡◌, ◌+◌, ◌-◌, ◌++◌, if◌then◌else◌, nat_lt, refl, ap, sym, ◌∙◌, subst, arith, length-append}
+use Rattle.std.proofs.Common.{◌≡◌, ◌+◌, ◌-◌, ◌++◌, refl, ap, sym, ◌∙◌, subst, arith, length-append}
 use Rattle.pas_profile.specs.declared.profile.Profile.{Profile}
 use Rattle.pas_steps.proofs.{Adding.adds_call, Apart.only_both}
 use Rattle.pas_scan.{specs.{Runs.{large_directory, page_looks}, Passed.held_looks}, proofs.LeftPages.{left_alone_by, RunSoFar, run_none, run_more, run_found}}
@@ -11,8 +11,7 @@ loop-page-init g c =
     let pages : c.profile.result.now.pages ≡ (g.D.Desk.standing c.args.desk.now).seat.profile.pages = ap (λ (x : Profile). x.pages) c.profile.ensures in
     let count = held_many d h.deeds h.offered next h.many in let at = h.at in let few = h.few in
     let looks = held_looks d h.deeds h.offered next h.many in let first = c.pass_held-first.result in
-    let length_is : c.kept-length.result ≡ kept_after (next - c.args.from) h.many = c.kept-length.ensures
-    ∙ ap (λ p. if nat_lt next p then 0 else next - c.args.from) (sym at) ∙ kept_is next (next - c.args.from) h.many in
+    let length_is : c.kept-length.result ≡ kept_after (next - c.args.from) h.many = cc (kept_is next (next - c.args.from) h.many) in
     record {
       steps = looks;
       adds = h.adds;

@@ -33,10 +33,4 @@ returns-then-value-clause-looks g c =
     }
 
 pub returns-clause-looks : goal.returns-clause-looks
-returns-clause-looks g c = let i = c.loop-word.invariant in record {
-  steps = i.steps;
-  adds = i.adds;
-  kinds = i.kinds;
-  few = omega (arith, i.count, c.loop-word.auto.word-end);
-  outcome = λ w lt. i.free w (omega (arith, lt, c.loop-word-test.false));
-}
+returns-clause-looks g c = search arith

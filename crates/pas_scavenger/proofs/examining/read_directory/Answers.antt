@@ -1,4 +1,4 @@
-use Rattle.std.proofs.Common.{[], ◌∷◌, subst}
+use Rattle.std.proofs.Common.{arith, [], ◌∷◌, subst}
 use Rattle.pas_profile.specs.declared.word.Word.{Word}
 use Rattle.pas_steps.{specs.{Desks.{AnyView, Adds, made}, declared.step.Step.TheVariants.Look}, proofs.Adding.{adds_none, adds_step}}
 use Rattle.pas_steps.proofs.ReadDeeds.{directory_told, directory_is}
@@ -6,9 +6,7 @@ use Rattle.pas_scavenger.proofs.examining.read_directory.Goals as goal
 
 pub unreachable-requires : goal.unreachable-requires
 unreachable-requires g c =
-    let D = g.D.Desk in let can = c.requires.can in let agrees = c.look.ensures.makes.agrees can.view can.whole can.stood tt in
-    let told = directory_told (D.standing c.args.desk.now).seat.profile _ _ (g.met.D.Desk.valid c.args.desk.now) c.read_deed.ensures (agrees.a_deed (agrees.backed can.met)) in
-    c.in_default.not-Some told.0 told.1
+    search (arith, directory_told)
 
 pub returns-clause-reads : goal.returns-clause-reads
 returns-clause-reads g c =

@@ -1,6 +1,6 @@
-use Rattle.std.proofs.Common.{◌≡◌, refl, subst, ◌∙◌, add-one, arith}
-use Rattle.pas_rights.{specs.{Takes.{HasRight, takes}, Words.ones}, proofs.Puts.takes_right}
-use Rattle.pas_steps.{specs.Desks.Adds, proofs.Adding.{adds_none, adds_step, can_step}}
+use Rattle.std.proofs.Common.{refl, add-one, arith}
+use Rattle.pas_rights.{specs.Words.ones, proofs.Puts.takes_right}
+use Rattle.pas_steps.proofs.Adding.{adds_none, adds_step, can_step}
 use Rattle.pas_scavenger.proofs.taking.take_grains.Goals as goal
 
 pub loop-word-init : goal.loop-word-init
@@ -11,16 +11,10 @@ take-value-requires-clause-can g c = can_step c.loop-word.invariant.adds c.requi
     ((c.requires.page.0, c.requires.page.1), c.loop-word-test.true, omega arith) (λ v l stood right. takes_right _ ones ones c.loop-word.word v right)
 
 pub loop-word-preserved : goal.loop-word-preserved
-loop-word-preserved g c = let D = g.D.Desk in let i = c.loop-word.invariant in let page = c.args.page in let word = c.loop-word.word in record {
-  adds = search (arith, add-one, adds_step, takes_right);
-  home = c.take-value.ensures.home ∙ i.home;
-}
+loop-word-preserved g c = search (arith, add-one, adds_step, takes_right)
 
 pub returns-then-value-clause-takes : goal.returns-then-value-clause-takes
 returns-then-value-clause-takes g c = search (arith, adds_step, takes_right)
 
 pub returns-clause-takes : goal.returns-clause-takes
-returns-clause-takes g c = let D = g.D.Desk in let all : c.loop-word.word ≡ 4 = omega (arith, c.loop-word.auto.word-end, c.loop-word-test.false) in record {
-  are = tt;
-  adds = subst (λ n. Adds (D.standing c.args.desk.now) (D.standing c.loop-word.desk) (HasRight c.args.page) (takes c.args.page ones ones n)) all c.loop-word.invariant.adds;
-}
+returns-clause-takes g c = search arith

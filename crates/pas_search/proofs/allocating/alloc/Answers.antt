@@ -1,4 +1,4 @@
-use Rattle.std.proofs.Common.{Ok, Err}
+use Rattle.std.proofs.Common.{arith, Ok, Err}
 use Rattle.pas_search.proofs.{Sessions.{can_ask_again, room_left}, Allocated.{may_search, room_to_search, is_run, run_within, can_give, room_to_give, one_deed}}
 use Rattle.pas_search.proofs.Allocated.{can_leave, allocates, refuses}
 use Rattle.pas_search.proofs.allocating.alloc.Goals as goal
@@ -7,14 +7,10 @@ pub find_page-requires-clause-can : goal.find_page-requires-clause-can
 find_page-requires-clause-can g c = room_to_search c.requires.can
 
 pub give-block-requires-clause-some : goal.give-block-requires-clause-some
-give-block-requires-clause-some g c = let searches = c.in-Ok.ensures.searches in
-    (is_run (g.P.Placing.placement c.args.pages.now.0) (g.met.P.Placing.is_placement c.args.pages.now.0) c.requires.suits.0 c.args.directory
-    c.requires.directory c.in-Ok.served searches.adds searches.outcome).some
+give-block-requires-clause-some g c = search (arith, is_run, g.P.Placing.placement, g.met.P.Placing.is_placement)
 
 pub give-block-requires-clause-within : goal.give-block-requires-clause-within
-give-block-requires-clause-within g c = let searches = c.in-Ok.ensures.searches in
-    run_within (g.P.Placing.placement c.args.pages.now.0) (g.met.P.Placing.is_placement c.args.pages.now.0) c.requires.suits.0 c.args.directory
-    c.requires.directory c.in-Ok.served searches.adds searches.outcome
+give-block-requires-clause-within g c = search (arith, run_within, g.P.Placing.placement, g.met.P.Placing.is_placement)
 
 pub give-block-requires-clause-can : goal.give-block-requires-clause-can
 give-block-requires-clause-can g c = let searches = c.in-Ok.ensures.searches in

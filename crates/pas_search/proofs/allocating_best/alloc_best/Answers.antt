@@ -1,3 +1,4 @@
+use Rattle.std.proofs.Common.{arith}
 use Rattle.pas_search.proofs.{TheBestPage.can_go_on, Allocated.{room_to_try, room_to_use, is_run, run_within, can_give, room_to_give, no_deed, can_leave}}
 use Rattle.pas_search.proofs.Allocated.{allocates_best, allocates_then}
 use Rattle.pas_search.proofs.allocating_best.alloc_best.Goals as goal
@@ -14,14 +15,10 @@ returns-in_default-clause-allocates g c =
     allocates_then (g.P.Placing.placement c.args.pages.now.0) c.args.directory c.in_default.ensures.tries c.alloc.ensures.allocates
 
 pub give-block-requires-clause-some : goal.give-block-requires-clause-some
-give-block-requires-clause-some g c = let tries = c.in-Some.ensures.tries in
-    (is_run (g.P.Placing.placement c.args.pages.now.0) (g.met.P.Placing.is_placement c.args.pages.now.0) c.requires.suits.0 c.args.directory
-    c.requires.directory c.in-Some.served tries.adds tries.outcome).some
+give-block-requires-clause-some g c = search (arith, is_run, g.P.Placing.placement, g.met.P.Placing.is_placement)
 
 pub give-block-requires-clause-within : goal.give-block-requires-clause-within
-give-block-requires-clause-within g c = let tries = c.in-Some.ensures.tries in
-    run_within (g.P.Placing.placement c.args.pages.now.0) (g.met.P.Placing.is_placement c.args.pages.now.0) c.requires.suits.0 c.args.directory
-    c.requires.directory c.in-Some.served tries.adds tries.outcome
+give-block-requires-clause-within g c = search (arith, run_within, g.P.Placing.placement, g.met.P.Placing.is_placement)
 
 pub give-block-requires-clause-can : goal.give-block-requires-clause-can
 give-block-requires-clause-can g c = let tries = c.in-Some.ensures.tries in

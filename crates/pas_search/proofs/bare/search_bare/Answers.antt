@@ -1,4 +1,4 @@
-use Rattle.std.proofs.Common.{◌≡◌, ◌∙◌, ap, arith}
+use Rattle.std.proofs.Common.{◌∙◌, ap, arith}
 use Rattle.pas_profile.specs.declared.profile.Profile.{Profile}
 use Rattle.pas_search.proofs.PagesThatServe.{all_bare, none_bare, deed_room, serve_room, deed_adds, lost_passes, clear_can, deed_can, not_left, served_bare}
 use Rattle.pas_search.proofs.bare.search_bare.Goals as goal

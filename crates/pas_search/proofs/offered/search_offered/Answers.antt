@@ -1,10 +1,8 @@
-use Rattle.std.proofs.Common.{◌≡◌, ◌∙◌, ◌==◌, ◌||◌, ◌+◌, ap, sym, subst, refl, arith, rules, [], None}
-use Rattle.pas_profile.specs.declared.profile.Profile.{Profile}
+use Rattle.std.proofs.Common.{◌≡◌, ◌∙◌, ◌==◌, ◌||◌, ◌+◌, ap, sym, refl, arith, rules, []}
 use Rattle.pas_scan.specs.Marks.{is_marked}
 use Rattle.pas_steps.{specs.Desks.AnyView, proofs.Adding.{adds_none, can_call}}
-use Rattle.pas_search.{specs.Searches.{MaySearch, SearchesOffered}, proofs.{ForBackEnds.room_kept, ToldVisits.{tries_passed, passes_none, still_can}}}
-use Rattle.pas_search.proofs.PagesThatServe.{claim_can, none_offered, further, claim_adds, claim_quiet, lost_tries, serve_can, found_there, left_tries}
-use Rattle.pas_search.proofs.PagesThatServe.{TriesPages}
+use Rattle.pas_search.{specs.Searches.MaySearch, proofs.{ForBackEnds.room_kept, ToldVisits.{tries_passed, passes_none, still_can}, PagesThatServe.claim_can}}
+use Rattle.pas_search.proofs.PagesThatServe.{none_offered, further, claim_adds, claim_quiet, lost_tries, serve_can, found_there, left_tries, TriesPages}
 use Rattle.pas_search.proofs.offered.search_offered.Goals as goal
 
 pub loop-looked-init : goal.loop-looked-init

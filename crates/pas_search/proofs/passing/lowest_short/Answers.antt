@@ -1,4 +1,3 @@
-use Rattle.std.proofs.Common.{arith}
 use Rattle.pas_search.proofs.ToldVisits.{short_too, lowest_both, lowest_lower}
 use Rattle.pas_search.proofs.passing.lowest_short.Goals as goal
 

@@ -1,18 +1,11 @@
-use Rattle.std.proofs.Common.{◌≡◌, ◌∙◌, sym, ap, subst, arith, refl}
+use Rattle.std.proofs.Common.{◌∙◌, ap, arith}
 use Rattle.pas_profile.specs.declared.profile.Profile.{Profile}
-use Rattle.pas_steps.{specs.{Told.TookSteps, Desks.AnyView}, proofs.Adding.can_call}
-use Rattle.pas_search.{specs.Passing.{passed_steps, PassesBy}, proofs.ToldVisits.{passes_turn, passes_none, passes_more}}
+use Rattle.pas_steps.{specs.Desks.AnyView, proofs.Adding.can_call}
+use Rattle.pas_search.{specs.Passing.passed_steps, proofs.ToldVisits.{passes_turn, passes_none, passes_more}}
 use Rattle.pas_search.proofs.passing.pass_short.Goals as goal
 
 pub loop-passed-init : goal.loop-passed-init
-loop-passed-init g c = let D = g.D.Desk in let σ = D.standing c.args.desk.now in record {
-  directory = refl;
-  low = omega arith;
-  passes = passes_none (g.S.Serving.rule c.args.serving.now) c.args.looked.now.directory c.args.looked.now.next c.args.looked.now.unfit σ σ (record { seat_is = refl; stands = λ v l stood. stood });
-  can = c.requires.can;
-  sized = omega arith;
-  home = refl;
-}
+loop-passed-init g c = search (arith, passes_none, g.S.Serving.rule)
 
 pub loop-passed-preserved : goal.loop-passed-preserved
 loop-passed-preserved g c =

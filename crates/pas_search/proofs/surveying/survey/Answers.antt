@@ -1,16 +1,10 @@
-use Rattle.std.proofs.Common.{◌≡◌, ◌∙◌, ap, arith, refl}
+use Rattle.std.proofs.Common.{◌≡◌, ◌∙◌, ap, arith}
 use Rattle.pas_profile.specs.declared.profile.Profile.{Profile}
 use Rattle.pas_search.proofs.Surveyed.{none_yet, all_surveyed, none_further, next_is, page_surveyed}
 use Rattle.pas_search.proofs.surveying.survey.Goals as goal
 
 pub loop-looked-init : goal.loop-looked-init
-loop-looked-init g c = let first = c.begin-looked.ensures.next in
-    record {
-      low = omega (arith, first);
-      directory = c.begin-looked.ensures.directory;
-      surveys = none_yet (g.R.Ranking.ranks c.args.ranking.now) c.args.directory c.begin-looked.result.next first;
-      home = refl;
-    }
+loop-looked-init g c = search (arith, none_yet, g.R.Ranking.ranks)
 
 pub returns-in_default-clause-surveys : goal.returns-in_default-clause-surveys
 returns-in_default-clause-surveys g c =

@@ -1,4 +1,4 @@
-use Rattle.std.proofs.Common.{◌≡◌, List, [], ◌∷◌, ◌++◌, ap, sym, subst, ◌∙◌, append_assoc}
+use Rattle.std.proofs.Common.{arith, ◌≡◌, ap, sym, subst, ◌∙◌, append_assoc}
 use Rattle.pas_shared.{specs.{Ruled.{joined, seen_in, view_in, IsNoBench}, declared.pass.SharedPass.SharedPass}, proofs.Ruling.{takes_in, seen_still}}
 use Rattle.pas_shared.proofs.{Ruling.no_bench_still, Pops.last_is}
 use Rattle.pas_shared.proofs.closing.join_all.Goals as goal
@@ -15,9 +15,5 @@ loop-pass-preserved c =
       subst IsNoBench (sym (ap (λ m. m.0) c.join.ensures.1 ∙ ap (λ m. joined seat m.0) pass.place.named)) (no_bench_still seat pass.place.actor (view_in pass.place.seat.me.0) i.2),
       of_table.0,
       ap (λ m. seen_in m.0) c.join.ensures.1 ∙ ap (λ m. seen_in (joined seat m.0)) pass.place.named ∙ seen_still seat pass.place.actor (view_in pass.place.seat.me.0) ∙ i.4,
-      (
-        pass ∷ i.5.0,
-        sym (append_assoc c.pop.new.self.items (pass ∷ []) i.5.0) ∙ ap (λ (l : List SharedPass). l ++ i.5.0) (sym c.in-Some.ensures.items) ∙ i.5.1,
-        takes_in seat c.join.new.seat.me pass i.5.0 i.2 (c.join.ensures.1 ∙ ap (λ t. (joined seat pass.place.seat.me.0, t)) i.1) i.5.2,
-      ),
+      search (arith, append_assoc, takes_in),
     )

@@ -1,4 +1,4 @@
-use Rattle.std.proofs.Common.{arith, ◌/◌}
+use Rattle.std.proofs.Common.{arith}
 use Rattle.pas_steps.proofs.Adding.{adds_none, can_call}
 use Rattle.pas_cache.proofs.Routes.{small_may, small_did}
 use Rattle.pas_cache.proofs.cache.ThreadCache.alloc.Goals as goal

@@ -1,10 +1,8 @@
-use Rattle.std.proofs.Common.{arith, ◌∙◌, refl, sym, subst, ◌≡◌, ◌≤◌, ◌%◌, ap, None}
+use Rattle.std.proofs.Common.{arith, ◌∙◌, refl, sym, subst, ap, None}
 use Rattle.pas_profile.{specs.{Profiles.IsValid, declared.{directory.{Directory.Directory, Route.Route}, profile.Profile.Profile}}, proofs.Sizes.bitfit_suits}
-use Rattle.pas_steps.specs.Desks.{CanCall}
-use Rattle.pas_bitfit.specs.Allocates.{Allocates}
-use Rattle.pas_cache.{specs.{Caches.cached, Calls.MayAllocatePages, Parts.ServesFrom, Serves.{IsFilling, filling_in}}, proofs.Routes.{large_size, goes, may_go}}
-use Rattle.pas_cache.proofs.{Routes.{pages_asked, bitfit_call, bitfit_room, bitfit_allocates}, Obtained.obtain_rests, FlushesAndFrees.may_allocate_open}
-use Rattle.pas_cache.proofs.Alone.{routed, roomed, filling_for, home_is, allocates, serve_call, formed, rests_after}
+use Rattle.pas_cache.{specs.{Parts.ServesFrom, Serves.filling_in}, proofs.Routes.{large_size, goes, may_go, pages_asked, bitfit_call, bitfit_room}}
+use Rattle.pas_cache.proofs.{Routes.bitfit_allocates, Obtained.obtain_rests, FlushesAndFrees.may_allocate_open, Alone.{routed, roomed, filling_for, home_is}}
+use Rattle.pas_cache.proofs.Alone.{allocates, serve_call, formed, rests_after}
 use Rattle.pas_cache.proofs.cache.ThreadCache.serve.Goals as goal
 
 pub route-requires-clause-valid : goal.route-requires-clause-valid
@@ -12,16 +10,11 @@ route-requires-clause-valid g c = subst IsValid (sym c.profile.ensures) (g.met.D
 
 pub serve_class-requires-clause-filling : goal.serve_class-requires-clause-filling
 serve_class-requires-clause-filling g c =
-    let f = (g.D.Desk.standing c.args.desk.now).seat.profile in
-    let class = c.in-Class.class in
-    subst (λ (d : Directory). IsFilling f (filling_in d class)) (sym (home_is f _ _ _ _ c.kind_for-kind.ensures (c.new.ensures ∙ ap (λ (x : Profile). x.shared) c.profile-in-Class.ensures)))
-    (filling_for f _ _ _ class c.requires.admitted (routed f _ _ _ _ _ c.profile.ensures c.route.ensures c.in-Class.is))
+    search (arith, home_is, filling_for, routed)
 
 pub serve_class-requires-clause-can : goal.serve_class-requires-clause-can
 serve_class-requires-clause-can g c =
-    let σ = g.D.Desk.standing c.args.desk.now in
-    let route = routed _ _ _ _ _ _ c.profile.ensures c.route.ensures c.in-Class.is in
-    serve_call (may_allocate_open c.self.view_is (may_go _ c.args.heap _ _ (g.D.Desk.spare_of c.args.desk.now) _ route c.requires.can))
+    search (arith, routed, serve_call, may_allocate_open, may_go)
 
 pub invariant_of-self : goal.invariant_of-self
 invariant_of-self g c =
@@ -38,9 +31,7 @@ bitfit_room-requires g c =
 
 pub alloc-requires-clause-room : goal.alloc-requires-clause-room
 alloc-requires-clause-room g c =
-    let f = (g.D.Desk.standing c.args.desk.now).seat.profile in
-    let route = routed f _ _ _ _ _ c.profile.ensures c.route.ensures c.in-Bitfit.is in
-    subst (λ n. (16 ≤ n) × (n ≤ 2048) × (n % 16 ≡ 0)) (roomed f _ _ _ route c.bitfit_room.ensures) (bitfit_room f.classes _ _ route)
+    search (arith, routed, roomed, bitfit_room)
 
 pub alloc-requires-clause-can : goal.alloc-requires-clause-can
 alloc-requires-clause-can g c =
@@ -55,10 +46,7 @@ alloc_large-requires-clause-size g c =
 
 pub alloc_large-requires-clause-can : goal.alloc_large-requires-clause-can
 alloc_large-requires-clause-can g c =
-    let σ = g.D.Desk.standing c.args.desk.now in
-    let route = routed _ _ _ _ _ _ c.profile.ensures c.route.ensures c.in-Large.is in
-    subst (λ n. CanCall σ (MayAllocatePages σ.seat.profile (cached c.args.self.now) n (g.D.Desk.spare_of c.args.desk.now))) (pages_asked σ.seat.profile _ _ route)
-    (may_go _ c.args.heap _ _ (g.D.Desk.spare_of c.args.desk.now) Route.Large route c.requires.can)
+    search (arith, routed, pages_asked, may_go)
 
 pub returns-in-Class-clause-allocates : goal.returns-in-Class-clause-allocates
 returns-in-Class-clause-allocates g c =
@@ -75,8 +63,7 @@ returns-in-Bitfit-clause-allocates g c =
     let f = (g.D.Desk.standing c.args.desk.now).seat.profile in
     let route = routed f _ _ _ _ _ c.profile.ensures c.route.ensures c.in-Bitfit.is in
     goes Route.Bitfit None route (refl, refl) (bitfit_allocates _ _ _ g.D.Desk.tells _ _ route
-    (subst (λ n. Allocates c.args.heap n c.args.align g.D.Desk.tells (g.D.Desk.standing c.args.desk.now) (g.D.Desk.standing c.alloc.new.desk) c.alloc.result)
-    (sym (roomed f _ _ _ route c.bitfit_room.ensures)) c.alloc.ensures.allocates))
+    (rw (roomed f _ _ _ route c.bitfit_room.ensures) c.alloc.ensures.allocates))
 
 pub returns-in-Large-clause-allocates : goal.returns-in-Large-clause-allocates
 returns-in-Large-clause-allocates g c = search (arith, routed, goes)

@@ -1,5 +1,5 @@
-use Rattle.std.proofs.{Common.{arith, [], get_or, sym, subst, take, refl, take_all}, lemmas.List.{Elements.{All-nil, All-same}, take_more}}
-use Rattle.pas_free_log.specs.{Noted.{AreRanges, IsRange}, declared.noting.EndedRun.EndedRun}
+use Rattle.std.proofs.{Common.{arith, [], sym, subst, take, refl, take_all}, lemmas.List.{Elements.{All-nil, All-same}, take_more}}
+use Rattle.pas_free_log.specs.{Noted.IsRange, declared.noting.EndedRun.EndedRun}
 use Rattle.pas_cache.{specs.Calls.SettlesEach, proofs.FlushesAndFrees.{settles_more, blank}}
 use Rattle.pas_cache.proofs.cache.ThreadCache.settle.Goals as goal
 
@@ -8,9 +8,7 @@ loop-run-init g c = refl
 
 pub settle-requires : goal.settle-requires
 settle-requires g c =
-    let ranges : AreRanges c.as_slice-run-items.result.now = subst AreRanges (sym c.as_slice-run-items.ensures.value) c.self.invariant.ranges in
-    let is : IsRange (get_or c.as_slice-run-items.result.now c.loop-run.run-index blank).range = ranges c.loop-run.run-index blank c.loop-run-test.true in
-    record { first = is.first; some = is.some; last = is.last }
+    search arith
 
 pub loop-run-preserved : goal.loop-run-preserved
 loop-run-preserved g c =

@@ -1,8 +1,7 @@
 use Rattle.std.proofs.Common.{◌++◌, ◌∷◌, List, [], length, length-append, refl, ap, sym, subst, ◌∙◌, arith, slice_index_or}
 use Rattle.pas_records.specs.Rooms.{records_in}
-use Rattle.pas_guard.{specs.{Books.guards_in, Passing.{no_guard, AreOfRegion}, Sweeps.lowered_record}, proofs.PassedGuards.{are_of_region, guards_stay}}
-use Rattle.pas_guard.proofs.{PassedGuards.{may_pass, place_within}, Raises.{swept_none, swept_all, its_page, may_look, can_lower_it, it_stays, it_goes}}
-use Rattle.pas_guard.proofs.Raises.{one_less}
+use Rattle.pas_guard.{specs.{Passing.{no_guard, AreOfRegion}, Sweeps.lowered_record}, proofs.PassedGuards.{are_of_region, guards_stay, may_pass, place_within}}
+use Rattle.pas_guard.proofs.Raises.{swept_none, swept_all, its_page, may_look, can_lower_it, it_stays, it_goes, next, one_less}
 use Rattle.pas_profile.specs.declared.guard.Guard.{Guard}
 use Rattle.pas_guard.proofs.book.GuardBook.sweep.Goals as goal
 
@@ -30,7 +29,7 @@ lower-requires g c = let i = c.loop-place.invariant in
     let so_far = guards_stay i.so_far c.guards.result.now c.guards.ensures c.pass_alive-place.ensures.passes in
     let within = place_within so_far in let many = ap length c.guards-in-loop-place.ensures in let more = c.if-place-guards.false in
     let read = ap (λ (xs : List Guard). slice_index_or xs c.pass_alive-place.result no_guard) c.guards-in-loop-place-2.ensures in record {
-      can = can_lower_it so_far read (omega (arith, within, many, more)) c.goes_down.ensures.looks c.requires.can;
+      can = can_lower_it so_far (next so_far read (omega (arith, within, many, more))).rest_is c.goes_down.ensures.looks c.requires.can;
     }
 
 pub loop-place-smaller-then-goes_down : goal.loop-place-smaller-then-goes_down
@@ -52,8 +51,8 @@ loop-place-preserved-then-goes_down g c = let i = c.loop-place.invariant in
     let line = lowered_record c.actor-actor.result (slice_index_or c.guards-in-loop-place-2.result.now c.pass_alive-place.result no_guard) ∷ [] in
     let pushed = ap length c.push.ensures.added in let n = length-append (records_in c.loop-place.lowered) line in let room = i.room in
     let same = c.push.ensures.size in record {
-      so_far = it_goes so_far read
-          (omega (arith, within, many, more)) c.goes_down.ensures.looks c.if-goes_down.true c.lower.ensures.lowers c.take_out.ensures.taken
+      so_far = it_goes so_far (next so_far read (omega (arith, within, many, more))).rest_is
+          c.goes_down.ensures.looks c.if-goes_down.true c.lower.ensures.lowers c.take_out.ensures.taken
           (c.push.ensures.added ∙ ap (λ k. records_in c.loop-place.lowered ++ lowered_record k
           (slice_index_or c.guards-in-loop-place-2.result.now c.pass_alive-place.result no_guard) ∷ []) c.actor-actor.ensures);
       actor = c.actor-actor.ensures;
@@ -70,7 +69,7 @@ loop-place-preserved g c = let i = c.loop-place.invariant in
     let many = ap length c.guards-in-loop-place.ensures in let more = c.if-place-guards.false in let at = c.pass_alive-place.ensures.passes.at in
     let read = ap (λ (xs : List Guard). slice_index_or xs c.pass_alive-place.result no_guard) c.guards-in-loop-place-2.ensures in
     let room = i.room in record {
-      so_far = it_stays so_far read (omega (arith, within, many, more)) c.goes_down.ensures.looks c.if-goes_down.false;
+      so_far = it_stays so_far (next so_far read (omega (arith, within, many, more))).rest_is c.goes_down.ensures.looks c.if-goes_down.false;
       actor = i.actor;
       room = omega (arith, room, at);
       rooms = i.rooms;

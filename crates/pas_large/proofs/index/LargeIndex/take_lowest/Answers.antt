@@ -1,4 +1,4 @@
-use Rattle.std.proofs.Common.{◌∙◌, ap, sym, subst, Some}
+use Rattle.std.proofs.Common.{◌∙◌, ap, sym, subst}
 use Rattle.pas_large.{specs.Spans.{AreApart, lowest_fit}, proofs.Spans.{none_cut, cut_is_lowest, found_for}}
 use Rattle.pas_large.proofs.index.LargeIndex.take_lowest.Goals as goal
 

@@ -1,4 +1,4 @@
-use Rattle.std.proofs.Common.{◌∙◌, ◌≡◌, ◌*◌, ◌/◌, ◌<◌, arith}
+use Rattle.std.proofs.Common.{◌≡◌, ◌*◌, ◌/◌, ◌<◌, arith}
 use Rattle.pas_machine.{specs.Places.grains_of, proofs.Verdicts.block_is}
 use Rattle.pas_machine.proofs.machine.Machine.block_at.Goals as goal
 

@@ -1,4 +1,3 @@
-use Rattle.std.proofs.Common.{arith, ◌∙◌}
 use Rattle.pas_machine.proofs.Verdicts.{ends_are}
 use Rattle.pas_machine.proofs.machine.Machine.ends.Goals as goal
 

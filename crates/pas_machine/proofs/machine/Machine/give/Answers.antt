@@ -1,4 +1,4 @@
-use Rattle.std.proofs.Common.{arith, ◌∙◌, refl, sym}
+use Rattle.std.proofs.Common.{refl}
 use Rattle.pas_profile.specs.{declared.event.Event.Event, Blocks.address_of}
 use Rattle.pas_machine.proofs.Verdicts.{admits_of, place_at, gives_are, give_made, shown_after}
 use Rattle.pas_machine.proofs.machine.Machine.give.Goals as goal

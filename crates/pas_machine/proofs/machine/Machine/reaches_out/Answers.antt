@@ -1,4 +1,4 @@
-use Rattle.std.proofs.Common.{arith, refl}
+use Rattle.std.proofs.Common.{arith}
 use Rattle.pas_machine.proofs.Verdicts.{ends_by_test}
 use Rattle.pas_machine.proofs.machine.Machine.reaches_out.Goals as goal
 

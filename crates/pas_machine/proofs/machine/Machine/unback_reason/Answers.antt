@@ -1,6 +1,6 @@
 use Rattle.pas_machine.{specs.{State.epoch_in, declared.places.Page.Page}, proofs.Verdicts.{not_outside, unback_before, backed_now, untouched, page_is}}
 use Rattle.pas_machine.proofs.{Verdicts.unback_lives, machine.Machine.unback_reason.Goals.then-epoch-last-via-then-epoch-last}
-use Rattle.std.proofs.Common.{◌≡◌, ◌+◌, ◌*◌, ◌<◌, ◌≤◌, false, subst, ◌∙◌, arith}
+use Rattle.std.proofs.Common.{◌+◌, ◌<◌, ◌≤◌, false, subst, arith}
 use Rattle.pas_machine.proofs.machine.Machine.unback_reason.Goals as goal
 
 pub returns-then-is_some_covered-clause-verdict : goal.returns-then-is_some_covered-clause-verdict

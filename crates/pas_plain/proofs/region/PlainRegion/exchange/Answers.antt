@@ -1,4 +1,4 @@
-use Rattle.std.proofs.{Common.{inl, inr, ◌≡◌, ◌≢◌, ℕ, ◌<◌, ◌∙◌, sym, ap, subst, true, false, true≢false, arith}, lemmas.Bool.{cases_eq, false_from_ne_true}}
+use Rattle.std.proofs.{Common.{inl, inr, ◌≡◌, ◌≢◌, ℕ, ◌<◌, ◌∙◌, sym, ap, subst, true, false, true≢false}, lemmas.Bool.{cases_eq, false_from_ne_true}}
 use Rattle.pas_profile.{specs.{Layouts.same_word, declared.word.Word.Word}, proofs.Places.same_word-true}
 use Rattle.pas_steps.specs.{Paged.value_in, Told.free_by}
 use Rattle.pas_plain.{specs.Short.{GotNone, HasNote}, proofs.ShortOnes.{short_apart, short_still, apart_pages}}

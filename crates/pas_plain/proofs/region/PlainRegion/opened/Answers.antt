@@ -1,4 +1,4 @@
-use Rattle.std.proofs.Common.{arith, ap, ◌∙◌}
+use Rattle.std.proofs.Common.{arith}
 use Rattle.pas_plain.proofs.region.PlainRegion.opened.Goals as goal
 
 pub invariant_of-result : goal.invariant_of-result

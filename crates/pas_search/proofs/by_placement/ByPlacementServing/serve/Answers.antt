@@ -1,4 +1,4 @@
-use Rattle.std.proofs.Common.{false}
+use Rattle.std.proofs.Common.{arith, false}
 use Rattle.pas_bits.specs.Masks.{is_set}
 use Rattle.pas_search.proofs.{ForBackEnds.room_kept, Pages.{placed_fits, unfit, run_chosen, quiet_by, can_leave, can_back, looked_at, leaves_unfit, can_take}}
 use Rattle.pas_search.{proofs.Pages.{taken_from, keeps_chosen}, specs.Placements.{by_run, placing}}
@@ -30,10 +30,7 @@ back-requires-clause-can g c =
 
 pub back-requires-clause-room : goal.back-requires-clause-room
 back-requires-clause-room g c =
-    let p = g.P.Placing.placement _ in let is = g.met.P.Placing.is_placement c.args.self.now.0 in let free = c.read-free.result in let run = c.in-Some.run' in
-    let so = run_chosen p is c.requires.suits.0 free run c.run.result c.in-Some.ensures c.run.ensures in
-    let took = taken_from (by_run p) c.args.page c.args.directory free c.read-free.ensures.reads run c.run.result so c.take.result c.take.ensures.takes in
-    room_kept 1 took.calls.adds c.requires.can (quiet_by took.steps took.kinds) (g.met.D.Desk.spares c.args.desk.now) (g.met.D.Desk.spares c.take.new.desk) c.requires.room
+    search (arith, run_chosen, taken_from, room_kept, quiet_by, g.P.Placing.placement, g.met.P.Placing.is_placement, g.met.D.Desk.spares)
 
 pub returns-clause-serves : goal.returns-clause-serves
 returns-clause-serves g c =

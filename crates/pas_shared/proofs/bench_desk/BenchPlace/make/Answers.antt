@@ -1,8 +1,8 @@
-use Rattle.std.proofs.Common.{◌≡◌, inr, [], ◌∷◌, refl, sym, ap, ◌∙◌, subst}
-use Rattle.pas_profile.specs.{Layouts.{words_of, index_of}, declared.profile.Profile.Profile}
-use Rattle.pas_steps.{specs.{Agreement.Agrees, Desks.made, Views.or_zero, Noted.AreNotesOf}, proofs.Noting.notes_next}
-use Rattle.pas_shared.{specs.{Ruled.{IsAskedOf, rows_in, row_with}, Benches.{row_on, first_row, made_by}}, proofs.Benching.{benched_is, one_row, row_stepped}}
-use Rattle.pas_shared.proofs.Benching.{made_next, sits_as}
+use Rattle.std.proofs.Common.{arith, ◌≡◌, [], ◌∷◌, refl, sym, ap, ◌∙◌, subst}
+use Rattle.pas_profile.specs.{Layouts.words_of, declared.profile.Profile.Profile}
+use Rattle.pas_steps.{specs.{Agreement.Agrees, Desks.made, Noted.AreNotesOf}, proofs.Noting.notes_next}
+use Rattle.pas_shared.{specs.{Ruled.{rows_in, row_with}, Benches.{row_on, first_row, made_by}}, proofs.Benching.{benched_is, one_row, row_stepped, made_next}}
+use Rattle.pas_shared.proofs.Benching.{sits_as}
 use Rattle.pas_shared.proofs.bench_desk.BenchPlace.make.Goals as goal
 
 pub exchange-answer-requires-clause-place : goal.exchange-answer-requires-clause-place
@@ -10,28 +10,15 @@ exchange-answer-requires-clause-place c = let keyed = c.args.region.now.keyed in
 
 pub exchange-answer-requires-clause-step : goal.exchange-answer-requires-clause-step
 exchange-answer-requires-clause-step c =
-    let place = c.args.self.now in
-    let seat = place.bench.seat in
-    let known : place.member.profile ≡ c.args.region.now.table.shared.key = c.requires.profiled ∙ sym c.args.region.now.keyed.0 in (
-      (λ k. (seat.me.0, (place.bench.benched k).1)),
-      inr (row_on place.bench, ap (λ m. m.0) (one_row seat.me _ place.bench.benched place.one), (place.sits.among_them, refl)),
-      refl,
-      subst (λ (f : Profile). IsAskedOf f place.member.actor (made_by place.bench place.member) c.args.step) known (record { valid = place.member.valid; actor = place.member.within; of_region = c.requires.step; allowed = c.requires.allowed }),
-    )
+    search (arith, one_row)
 
 pub exchange-answer-requires-clause-at : goal.exchange-answer-requires-clause-at
 exchange-answer-requires-clause-at c =
-    let region = c.args.region.now in
-    let pages = region.laid.0 ∙ sym (ap (λ (f : Profile). f.pages) region.keyed.0) in
-    (c.index-at.ensures.value ∙ (λ i. index_of (pages i) (c.target.ensures i)), c.epoch-epoch.ensures ∙ ap or_zero c.args.self.now.sits.noted.epoch)
+    search arith
 
 pub invariant_of-self : goal.invariant_of-self
 invariant_of-self c =
-    let place = c.args.self.now in (
-      benched_is _ _ (row_stepped place.bench.seat.me _ place.member.actor (made c.args.step c.exchange-answer.result) _
-          (one_row place.bench.seat.me _ place.bench.benched place.one) c.exchange-answer.ensures.step.0),
-      tt,
-    )
+    search (arith, benched_is, row_stepped, one_row)
 
 pub invariant_of-self-2 : goal.invariant_of-self-2
 invariant_of-self-2 c =
@@ -56,9 +43,7 @@ invariant_of-self-2 c =
 
 pub returns-clause-row : goal.returns-clause-row
 returns-clause-row c =
-    let place = c.args.self.now in
-    ap (λ n. first_row (rows_in n.0)) (row_stepped place.bench.seat.me _ place.member.actor (made c.args.step c.exchange-answer.result) _
-    (one_row place.bench.seat.me _ place.bench.benched place.one) c.exchange-answer.ensures.step.0)
+    search (arith, row_stepped, one_row)
 
 pub returns-clause-agrees : goal.returns-clause-agrees
 returns-clause-agrees c =

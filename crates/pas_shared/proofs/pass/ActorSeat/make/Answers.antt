@@ -1,7 +1,7 @@
-use Rattle.std.proofs.Common.{◌≡◌, inl, ℕ, [], ◌∷◌, refl, sym, ap, ◌∙◌, subst}
+use Rattle.std.proofs.Common.{arith, refl, sym, ap, ◌∙◌, subst}
 use Rattle.pas_profile.specs.{Layouts.words_of, declared.profile.Profile.Profile}
 use Rattle.pas_steps.specs.{Agreement.Agrees, Desks.made}
-use Rattle.pas_shared.specs.Ruled.{alone, actor_in, view_in, IsAskedOf, with_made}
+use Rattle.pas_shared.specs.Ruled.{actor_in, view_in, with_made}
 use Rattle.pas_shared.proofs.pass.ActorSeat.make.Goals as goal
 
 pub exchange-requires-clause-place : goal.exchange-requires-clause-place
@@ -9,21 +9,11 @@ exchange-requires-clause-place c = let keyed = c.args.region.now.keyed in (c.req
 
 pub exchange-requires-clause-step : goal.exchange-requires-clause-step
 exchange-requires-clause-step c =
-    let stand = c.args.self.now in
-    let who : actor_in stand.seat.me.0 ≡ stand.actor = ap (λ m. actor_in m.0) stand.named in (
-      (λ k. (stand.seat.me.0, (stand.named k).1)),
-      inl (subst (λ (n : ℕ). stand.seat.me.0 ≡ alone n (view_in stand.seat.me.0)) (sym who) (ap (λ m. m.0) stand.named)),
-      refl,
-      subst (λ (z : Profile × ℕ). IsAskedOf z.0 z.1 (view_in stand.seat.me.0) c.args.step) (λ k. (sym c.args.region.now.keyed.0 k, sym who k)) c.requires.step,
-    )
+    search arith
 
 pub invariant_of-self : goal.invariant_of-self
 invariant_of-self c =
-    let stand = c.args.self.now in
-    let who : actor_in stand.seat.me.0 ≡ stand.actor = ap (λ m. actor_in m.0) stand.named in
-    let m = made c.args.step c.exchange.result in
-    let grown : c.exchange.new.seat.me ≡ (alone stand.actor (m ∷ view_in stand.seat.me.0), []) = c.exchange.ensures.step.0 ∙ (λ k. (with_made (who k) m (stand.named k).0, [])) in
-    record { named = grown ∙ (λ k. (alone stand.actor (sym (ap (λ n. view_in n.0) grown) k), [])) }
+    search arith
 
 pub returns-clause-view : goal.returns-clause-view
 returns-clause-view c =

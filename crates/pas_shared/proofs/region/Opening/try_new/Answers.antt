@@ -1,5 +1,5 @@
-use Rattle.std.proofs.Common.{◌∙◌, ◌∷◌, [], List, ℕ, sym, ap, subst, slice_index}
-use Rattle.pas_profile.specs.{Layouts.{index_of, words_of}, Profiles.IsWordIn}
+use Rattle.std.proofs.Common.{◌∙◌, ◌∷◌, [], List, ℕ, sym, subst}
+use Rattle.pas_profile.specs.{Layouts.words_of, Profiles.IsWordIn}
 use Rattle.pas_shared.{specs.{declared.rule.Roster.TheVariants.Unused, Ruled.AreAfterOneList}, proofs.Opened.begins}
 use Rattle.pas_shared.proofs.region.Opening.try_new.Goals as goal
 
@@ -12,5 +12,4 @@ of_words-requires c =
     let words = c.in_ok-words.words in
     let sized = sym words.ok.0 ∙ c.in_ok-words.ensures.sized ∙ (λ i. words_of (pages i) (heaps i)) in
     subst (λ (ws : List ℕ). AreAfterOneList f ws (Unused 0 ∷ [])) (sym c.deref.ensures.value)
-    (begins f words.items sized (λ w hw. ap (λ (n : ℕ). slice_index words.items (index_of n w)) (sym pages)
-    ∙ c.in_ok-words.ensures.values w (subst (λ (z : ℕ × ℕ). IsWordIn z.0 z.1 w) (λ i. (sym pages i, sym heaps i)) hw)))
+    (begins f words.items sized (λ w hw. cc (c.in_ok-words.ensures.values w (subst (λ (z : ℕ × ℕ). IsWordIn z.0 z.1 w) (λ i. (sym pages i, sym heaps i)) hw))))
