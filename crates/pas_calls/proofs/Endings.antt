@@ -1,5 +1,5 @@
 -- From how a call that read its input ended to what its status says: of a check, and of a replay.
-use Rattle.std.proofs.Common.{◌≡◌, ◌≤◌, ℕ, ◌⊎◌, List, Option, Some, ◌∙◌, sym, subst, inl, inr, arith, ◌<◌, Err, ap, length}
+use Rattle.std.proofs.Common.{◌≡◌, ◌≤◌, ℕ, ◌⊎◌, List, Option, Some, ◌∙◌, sym, inl, inr, arith, ◌<◌, Err, ap, length}
 use Rattle.pas_trace.specs.{Plans.{IsPlanOf, parsed}, declared.{plan.Plan.Plan, fault.TraceFault.TraceFault}}
 use Rattle.pas_io.specs.Told.{Tells, Rose}
 use Rattle.pas_answers.specs.Ways.{Way}
@@ -43,13 +43,7 @@ pub tells_judgement : (rest held held' : Option (List ℕ)) (faults faults' resu
     → ((bytes : List ℕ) → rest ≡ Some bytes → (read ≡ bytes) × (length bytes ≤ most_bytes))
     → Tells held held' faults faults' (judgement_text judgement) (judgement_status judgement) result
     → TellsInput IsCheckStatus ChecksTo rest held held' faults faults' result
-tells_judgement rest held held' faults faults' result read judgement is whole tells = record {
-  status = judgement_status judgement;
-  text = judgement_text judgement;
-  status_is = judgement_check judgement;
-  comes = λ bytes told. let input = whole bytes told in judgement_comes bytes judgement input.1 (subst (λ (t : List ℕ). IsJudgement t judgement) input.0 is);
-  tells = tells;
-}
+tells_judgement rest held held' faults faults' result read judgement is whole tells = search (arith, judgement_check, judgement_comes)
 
 -- ---- an input that has a verdict, a faulty trace or too many bytes comes to that alone
 pub comes_long : (bytes : List ℕ) (status : ℕ) (text : List ℕ) → most_bytes < length bytes → ChecksTo bytes status text → status ≡ 6
@@ -125,20 +119,15 @@ module _ {MayTell : ℕ → Type 0} {Comes : List ℕ → ℕ → List ℕ → T
   module _ (may : (s : ℕ) → MayTell s → IsCheckStatus s) where
     -- a status that was told isn't that of memory, nor that of a read that failed
     told_other : TellsInput MayTell Comes rest held held' faults faults' result → (result ≡ 3) ⊎ (result ≡ 5) → ⊥
-    told_other t other = elim (answered held held' t.tells) [
-      | inl is ↦ not_other t.status result is (may t.status t.status_is) other
-      | inr four ↦ four_alone result four other
-    ]
+    told_other t other = search (arith, answered, not_other, four_alone)
 
     -- It ends with a status.
     pub ended_status : IsStatus result
-    ended_status = by_end (IsStatus result) (λ five. inr (inr (inr five))) (λ failed. inr (inl failed.0))
-        (λ t. elim (answered held held' t.tells) [ inl is ↦ inl (writing t.status result is (may t.status t.status_is)) | inr four ↦ inr (inr (inl four)) ])
+    ended_status = search (arith, by_end, answered, writing)
 
     -- Where it ended with status 3, it has failed to read.
     pub ended_failed : result ≡ 3 → HasFailed rest rest' misses misses'
-    ended_failed three = by_end (HasFailed rest rest' misses misses') (λ five. absurd (omega (arith, three, five))) (λ failed. failed.1)
-        (λ t. absurd (told_other t (inl three)))
+    ended_failed three = search (arith, by_end, told_other)
 
     -- ---- .. and what it tells is what its words ask for
     module _ (words : List (List ℕ)) (output : (status : ℕ) (text : List ℕ) → MayTell status → ((bytes : List ℕ) → rest ≡ Some bytes → Comes bytes status text)
@@ -160,23 +149,19 @@ module _ {MayTell : ℕ → Type 0} {Comes : List ℕ → ℕ → List ℕ → T
     -- Where the input comes to this status alone, it is that of the call, unless memory was wanting, or the source or the sink failed.
     pub ended_with : (s : ℕ) → ((status : ℕ) (text : List ℕ) → Comes bytes status text → status ≡ s)
         → (result ≡ s) ⊎ (result ≡ 3) ⊎ (result ≡ 4) ⊎ (result ≡ 5)
-    ended_with s alone = by_end _ (λ five. inr (inr (inr five))) (λ failed. inr (inl failed.0))
-        (λ t. elim (answered held held' t.tells) [ inl is ↦ inl (is ∙ alone t.status t.text (t.comes bytes told)) | inr four ↦ inr (inr (inl four)) ])
+    ended_with s alone = search (arith, by_end, answered)
 
     -- Where neither the source nor the sink failed, it is what the input comes to, unless memory was wanting.
     pub ended_sure : (Rose misses misses' → ⊥) → (Rose faults faults' → ⊥)
         → (result ≡ 5) ⊎ ((status : ℕ) × (text : List ℕ) × (result ≡ status) × Comes bytes status text)
-    ended_sure never unfailed = by_end _ (λ five. inl five) (λ failed. absurd (never failed.1.rose))
-        (λ t. elim (t.tells) [ inl whole ↦ inr (t.status, t.text, whole.0, t.comes bytes told) | inr cut ↦ absurd (unfailed cut.1) ])
+    ended_sure never unfailed = search (arith, by_end)
 
 -- A check whose input can be judged ends with 0, 8 or 5, where neither the source nor the sink failed.
 pub check_sure : (bytes : List ℕ) (result : ℕ) → length bytes ≤ most_bytes → (plan : Plan) → IsPlanOf (trace_in bytes) plan
     → (result ≡ 5) ⊎ ((status : ℕ) × (text : List ℕ) × (result ≡ status) × ChecksTo bytes status text) → (result ≡ 0) ⊎ (result ≡ 8) ⊎ (result ≡ 5)
-check_sure bytes result short plan read (inl five) = inr (inr five)
-check_sure bytes result short plan read (inr (status, text, is, comes)) = zero_or_eight result status is (comes_verdict bytes status text short plan read comes)
+check_sure bytes result short plan read given = search (arith, zero_or_eight, comes_verdict)
 
 -- A replay ends with 0 or 5 then.
 pub replay_sure : {way : Way} (bytes : List ℕ) (result : ℕ) → length bytes ≤ most_bytes → (plan : Plan) → IsPlanOf bytes plan
     → (result ≡ 5) ⊎ ((status : ℕ) × (text : List ℕ) × (result ≡ status) × ComesTo way bytes status text) → (result ≡ 0) ⊎ (result ≡ 5)
-replay_sure bytes result short plan read (inl five) = inr five
-replay_sure bytes result short plan read (inr (status, text, is, comes)) = inl (is ∙ is_replayed bytes status text comes short plan read)
+replay_sure bytes result short plan read given = search (arith, is_replayed)

@@ -1,7 +1,6 @@
 -- From what a replay shows to what is written of it: in the order of the text, the text of the bytes, whose verdict is yes.
-use Rattle.std.proofs.Common.{◌≡◌, ℕ, List, [], ◌∷◌, Option, Some, Result, Ok, codes, get_or, inl, inr, refl, ap, sym, subst, ◌∙◌, arith, ◌≤◌, ◌<◌, ◌++◌}
-use Rattle.std.proofs.Common.{length}
-use Rattle.pas_profile.specs.{declared.{profile.Profile.Profile, event.Event.Event}, Profiles.{IsValid, IsWordOf}}
+use Rattle.std.proofs.Common.{◌≡◌, ℕ, List, [], ◌∷◌, Option, Some, Result, Ok, codes, get_or, inl, inr, refl, ap, sym, subst, ◌∙◌, arith, ◌≤◌, length}
+use Rattle.pas_profile.specs.{declared.profile.Profile.Profile, Profiles.{IsValid, IsWordOf}}
 use Rattle.pas_trace.specs.{Plans.{IsPlanOf, Parsed, IsReading}, declared.{fault.{TraceFault.TraceFault, ReadFault.ReadFault}, plan.Plan.Plan}}
 use Rattle.pas_generate.specs.Traces.{trace_text}
 use Rattle.pas_report.{specs.{Reports.{total_line, report_text}, Counts.{report_by_words, totals_by_words}}, proofs.ReportOfWords.{line_agrees, are_deed_words}}
@@ -9,16 +8,16 @@ use Rattle.pas_report.proofs.ReportOfWords.{report_agrees}
 use Rattle.pas_answers.{specs.{Replays.{keepers_of, phases_of, Shows}, Ways.{Way, InOrder}}, proofs.Consequences.can_be_shown}
 use Rattle.pas_replay.specs.OneThread.{IsOfOneThread}
 use Rattle.pas_same_text.{specs.{State.World, Order.replayed, Told.IsTold}, proofs.{AllActs.{own_told, order_told}, TextOfBytes.replay_told}}
-use Rattle.pas_telling.specs.{Summaries.summary_text, declared.{manner.Manner.Manner, outcome.Outcome.{Outcome, TheVariants.{Replayed, Faulty}}}}
-use Rattle.pas_telling.specs.Outcomes.{IsShown, IsWritable, outcome_status, outcome_text, shown_text}
+use Rattle.pas_telling.specs.{declared.{manner.Manner.Manner, outcome.Outcome.{Outcome, TheVariants.{Replayed, Faulty}}}, Outcomes.{IsShown, IsWritable}}
+use Rattle.pas_telling.specs.Outcomes.{outcome_status, outcome_text, shown_text}
 use Rattle.pas_calls.specs.{Generating.IsSummarized, Manners.way_of, Outcomes.IsOutcome, OneText.{IsTextOf, WritesTextOf, IsOfOne, IsTextBy, summary_of_world}}
-use Rattle.pas_calls.specs.{OneText.{summary_for, IsSummaryOf}, Outputs.{ComesTo, IsReplaying, IsChecking, IsGen, IsOutput, IsReplayed, IsWritten, most_bytes}}
-use Rattle.pas_calls.{specs.{Outputs.{too_long_text, IsReplayStatus}, Ends.TellsInput}, proofs.{OnePlan.same_plan, Whole.replay_accepted}}
+use Rattle.pas_calls.specs.{OneText.IsSummaryOf, Outputs.{ComesTo, IsReplaying, IsChecking, IsGen, IsOutput, IsReplayed, IsWritten, most_bytes, IsReplayStatus}}
+use Rattle.pas_calls.{specs.Ends.TellsInput, proofs.{OnePlan.same_plan, Whole.replay_accepted}}
 use Rattle.pas_steps.specs.{Lists.{Legal, visible}, States.profile_of, declared.state.State.State}
 use Rattle.pas_core.proofs.MachineRuns.{agrees}
 use Rattle.pas_acts.proofs.PlanFacts.{plan_valid}
 use Rattle.pas_check.{specs.{Accepted.{IsAccepted, IsVerdict}, declared.verdict.Verdict.{Verdict, TheVariants.Yes}}, proofs.Verdicts.one_verdict}
-use Rattle.pas_records.specs.{Lines.lines_of, Marks.marks_after, Rests.{AreStamped, HasWords}, Rooms.records_in, declared.record.Record.Record}
+use Rattle.pas_records.specs.{Marks.marks_after, Rests.{AreStamped, HasWords}, Rooms.records_in, declared.record.Record.Record}
 use Rattle.pas_records.proofs.MarksAtRest.{nobody_holds}
 use Rattle.pas_io.specs.Told.{Tells}
 
@@ -52,11 +51,7 @@ summary_told seed ops threads pages text is =
     let f : Profile = is.plan.profile in
     let w : World = replayed f (keepers_of is.plan) (phases_of is.plan) in
     let told : IsTold is.plan is.whole is.records w = own_told bytes is.plan is.whole is.records is.read is.replay in
-    ap (summary_for ops) is.read.read
-    ∙ (replay_told (by_state ops) bytes is.plan is.read
-    ∙ (ap (λ (rs : List Record). let o : Option (List ℕ) = Some (summary_text ops rs (total_line f w.events)) in o) told.records_are
-    ∙ (ap (λ (es : List Event). let o : Option (List ℕ) = Some (summary_text ops is.records (total_line f es)) in o) told.events_are
-    ∙ ap (λ (t : List ℕ). let o : Option (List ℕ) = Some t in o) (sym is.text_is))))
+    cc (replay_told (by_state ops) bytes is.plan is.read)
 
 -- ---- what `order` wrote with status 0
 in_order : (manner : Manner) (words : List (List ℕ)) → IsReplaying Manner.InOrder words → IsReplaying manner words → way_of manner ≡ InOrder
@@ -115,14 +110,7 @@ module _ {bytes : List ℕ} {way : Way} {plan : Plan} {records : List Record} {s
 
     -- WHAT EITHER WAY SHOWS is what is written
     shown_replayed : IsReplayed way bytes (shown_text records state)
-    shown_replayed = record {
-      plan = plan;
-      read = read;
-      whole = shows.whole;
-      records = records;
-      replay = shows.replay;
-      text_is = ap (λ (t : List ℕ). lines_of records ++ t) report_is;
-    }
+    shown_replayed = search (arith, report_is)
 
 -- ---- what an input comes to
 pub can_write : (way : Way) (bytes : List ℕ) (outcome : Outcome) → IsOutcome way bytes outcome → IsWritable outcome
@@ -156,13 +144,7 @@ pub tells_outcome : (way : Way) (rest held held' : Option (List ℕ)) (faults fa
     → ((bytes : List ℕ) → rest ≡ Some bytes → (read ≡ bytes) × (length bytes ≤ most_bytes))
     → Tells held held' faults faults' (outcome_text outcome) (outcome_status outcome) result
     → TellsInput IsReplayStatus (ComesTo way) rest held held' faults faults' result
-tells_outcome way rest held held' faults faults' result read outcome is whole tells = record {
-  status = outcome_status outcome;
-  text = outcome_text outcome;
-  status_is = replay_status outcome;
-  comes = λ bytes told. let input = whole bytes told in comes_to way bytes outcome input.1 (subst (λ (t : List ℕ). IsOutcome way t outcome) input.0 is);
-  tells = tells;
-}
+tells_outcome way rest held held' faults faults' result read outcome is whole tells = search (arith, replay_status, comes_to)
 
 -- ---- Every transcript of `order` is accepted.
 pub transcript_accepted : (bytes text : List ℕ) → IsReplayed InOrder bytes text → (plan : Plan) → IsPlanOf bytes plan → IsAccepted plan text

@@ -30,13 +30,11 @@ same_parsed bytes a b p q = same_ok (sym p.read ∙ q.read)
 
 -- in each case it computes, or is given
 to_parts : (text : List ℕ) (v : Verdict) (a : Plan) → IsVerdict a text v → JudgesIn text v a.profile a.guard (map ops_of (phases_of a.phases))
-to_parts text Yes a is = is
-to_parts text (No n) a is = is
+to_parts text v a is = search arith
 
 -- in each case it computes, or is given
 of_parts : (text : List ℕ) (v : Verdict) (a : Plan) → JudgesIn text v a.profile a.guard (map ops_of (phases_of a.phases)) → IsVerdict a text v
-of_parts text Yes a is = is
-of_parts text (No n) a is = is
+of_parts text v a is = search arith
 
 -- The verdict for one plan of a text is that for each.
 pub same_verdict : (bytes text : List ℕ) (a b : Plan) → IsPlanOf bytes a → IsPlanOf bytes b → (v : Verdict) → IsVerdict a text v → IsVerdict b text v

@@ -35,8 +35,7 @@ quiet_visible steps l only = visible_piece 0 steps l ∙ ap (λ es. es ++ visibl
 
 -- ---- what a word that was read says
 none_backed : (b : Bool) → 0 ≡ word_of_backed b → b ≡ false
-none_backed true is = absurd (omega (arith, is))
-none_backed false is = refl
+none_backed b is = search arith
 
 bare_at : (f : Profile) (l : Whole) (page : ℕ) → Legal f l → 0 ≡ word_after l (Word.Backed page) → backed_in (visible l) page ≡ false
 bare_at f l page legal read = none_backed (backed_in (visible l) page) (read ∙ backed_of f l legal page)
@@ -115,8 +114,7 @@ module _ (f : Profile) (valid : IsValid f) (s : Stand) (l : Whole) (may : MayPas
 
   -- THE OUTCOME of the page
   outcome_may : (outcome : Outcome) → ExamineSteps f.age s.epoch page outcome after → MayCome f (at_pass s l last) page outcome
-  outcome_may outcome (inl h) = without outcome h
-  outcome_may outcome (inr h) = with_right outcome h (runs f (triples 0 after ++ l) valid legal) (outcome_shown outcome (inr h))
+  outcome_may outcome given = search (arith, without, with_right, runs, outcome_shown)
 
 -- ---- The pages of a pass, tried one after the other: their outcomes rise, and each may come
 -- ---- what a pass keeps
@@ -137,8 +135,7 @@ outcome_lines epoch found = lines_by (map (λ p. record_of 0 epoch p.0 p.1) (rev
 outcomes_both : (epoch : ℕ) (xs ys : List (ℕ × Outcome)) → outcome_lines epoch (xs ++ ys) ≡ outcome_lines epoch ys ++ outcome_lines epoch xs
 outcomes_both epoch xs ys =
     let record_by : ℕ × Outcome → Record = λ p. record_of 0 epoch p.0 p.1 in
-    ap (λ ps. lines_by (map record_by ps)) (reverse-append xs ys) ∙ ap lines_by (map-append record_by (reverse ys) (reverse xs))
-    ∙ lines_both (map record_by (reverse ys)) (map record_by (reverse xs))
+    simp (reverse-append, map-append, lines_both)
 
 outcome_more : (epoch page : ℕ) (o : Option Outcome) (found : List (ℕ × Outcome))
     → outcome_lines epoch (with_outcome page o found) ≡ outcome_lines epoch found ++ outcome_lines epoch (with_outcome page o [])
@@ -157,13 +154,11 @@ record IsTried (f : Profile) (s : Stand) (l : Whole) (page last : ℕ) (o : Opti
 
 -- in each case it computes, or is given
 same_record : (epoch page : ℕ) (o : Outcome) → record_of 0 epoch page o ≡ allowed_record epoch page o
-same_record epoch page Unbacked = refl
-same_record epoch page other = refl
+same_record epoch page o = search arith
 
 -- in each case it computes, or is given
 then_is : (s : Stand) (page : ℕ) (o : Outcome) → after_outcome s page o ≡ record s { events = unback_of 0 s.epoch page o ++ s.events }
-then_is s page Unbacked = refl
-then_is s page other = refl
+then_is s page o = search arith
 
 try_page : (f : Profile) → IsValid f → (s : Stand) (l : Whole) (page last : ℕ) (o : Option Outcome) (steps : List Made) → MayPass s l → (1 ≤ page → last < page)
     → Legal f (triples 0 steps ++ l) → TrySteps f.age s.epoch page o steps
@@ -249,8 +244,7 @@ raised low high more [] le falls = tt
 raised low high more (x ∷ xs) le falls = (falls.0, (omega (arith, falls.1, le)), falls.2)
 
 set_more : (t : Bool) (n m : ℕ) (xs : List ℕ) → Descends (64 * n) (64 * n + m) xs → Descends (64 * n) (64 * n + suc m) (if t then (64 * n + m) ∷ xs else xs)
-set_more true n m xs falls = (omega arith, omega arith, falls)
-set_more false n m xs falls = raised (64 * n) (64 * n + m) (64 * n + suc m) xs (omega arith) falls
+set_more t n m xs falls = search (arith, raised)
 
 set_falls : (n value m : ℕ) → Descends (64 * n) (64 * n + m) (pages_set n value m)
 set_falls n value zero = tt
@@ -383,8 +377,7 @@ module _ (f : Profile) (valid : IsValid f) (k : ℕ) where
       ∙ ap (λ (es : List Event). es ++ visible (triples k (life_look guard word) ++ l)) (no_events giving_back refl k (part k (triples k (life_look guard word) ++ l)) first one.0.kinds)
       ∙ visible_piece k (life_look guard word) l ∙ ap (λ (es : List Event). es ++ visible l) (no_events (LookLife ∷ []) refl k (part k l) (life_look guard word) (refl, tt))
   quiet_one false guard first kept after said more word l one =
-      ap (λ (ms : List Made). visible (triples k (ms ++ life_look guard word) ++ l)) one.0
-      ∙ visible_piece k (life_look guard word) l ∙ ap (λ (es : List Event). es ++ visible l) (no_events (LookLife ∷ []) refl k (part k l) (life_look guard word) (refl, tt))
+      simp (one.0, visible_piece, no_events)
 
   -- THE SWEEP
   pub swept_is : (all : Bool) (guards kept : List Guard) (said : List Record) (steps : List Made) (l : Whole) (es : List Event) → visible l ≡ es
@@ -417,8 +410,7 @@ sweep_leads f s keeper all more ts book said told are =
     let u : Stand = record s { guards = up_after s keeper all; left = ts } in
     let gone : List Raised = filter (goes_down s.events keeper all) s.guards in
     on_as
-    (ap lines_by (are ∙ lowered_are keeper (going s.events all book))
-    ∙ ap (λ (gs : List Raised). lines_by (map lowered_record gs)) (sym (going_told s.events keeper all s.guards book told))) refl
+    (cc (lowered_are keeper (going s.events all book), going_told s.events keeper all s.guards book told)) refl
     (lowered_lead f u gone more)
 
 -- ---- THE CLOSE of a keeper

@@ -20,8 +20,8 @@ use Rattle.pas_segregated.specs.declared.slots.Slots.{Slots}
 use Rattle.pas_trace.specs.{declared.{item.Request.Request, plan.What.TheVariants.Alloc}, Named.{Named, named}}
 use Rattle.pas_answers.specs.Answers.{IsGiven, RefusalEnds, RequestEnds, block_of, records_of, said_by, said_of_request, said_of_room, wanted_by, Answer}
 use Rattle.pas_answers.specs.Answers.{IsFreed, IsFreedBy, Progress, after_answer, room_noted, said_of_fault, Caches, IsKept, IsRemadeBy, IsReplaced, IsServed}
-use Rattle.pas_answers.specs.{Answers.{having, request_for, with_cache, with_book}, Refusals.{request_in_move, request_in_remade}, Guarding.{IsTried, Tried}}
-use Rattle.pas_answers.{specs.Guarding.{TryEnds, after_giving, after_trying, said_of_guard}, proofs.Consequences.{Tidy, answer_tidy, tidy_piece, try_tidy}}
+use Rattle.pas_answers.specs.{Answers.{having, with_cache, with_book}, Refusals.{request_in_move, request_in_remade}, Guarding.{IsTried, Tried, TryEnds}}
+use Rattle.pas_answers.{specs.Guarding.{after_giving, after_trying, said_of_guard}, proofs.Consequences.{Tidy, answer_tidy, tidy_piece, try_tidy}}
 use Rattle.pas_check.specs.Begins.{is_full, logging, replacing, freeing, freeing_at, freeing_named, is_aligned, is_page, tells as saying, remaking}
 use Rattle.pas_check.specs.{Begins.{remaking_named, suits, guard_of, has_sides, page_above, page_below, raising, sweeping}, Calls.after_request}
 use Rattle.pas_check.specs.{Accepted.{IsDone, IsWhole}, Takes.{IsRefusal, directory_of, Takes, is_back, IsServing, block_in, given_next, kept_next}, States.Due}
@@ -72,14 +72,12 @@ all_deeds d [] all = tt
 all_deeds d (e ∷ es) all = (deeds_prepare d e all.0, all_deeds d es all.1)
 
 refusal_prepares : (route : Route) (d : Directory) (es : List Event) → RefusalEnds route d es → AllByRecursion (Prepares d) es
-refusal_prepares Route.Large d es all = all_deeds d es all
-refusal_prepares other d es none = subst (AllByRecursion (Prepares d)) (sym none) tt
+refusal_prepares route d es all = search (arith, all_deeds)
 
 -- in each case it computes, or is given
 reason_by : (route : Route) (f : Profile) (w : Wanted) (locals : List Slots) (entry exit : Whole) (room : NoRoom)
     → IsTrulyRefusedBy route f w locals entry exit room → IsTrueReason f w.directory exit room
-reason_by Route.Large f w locals entry exit room h = h.2
-reason_by other f w locals entry exit room h = h.reason
+reason_by route f w locals entry exit room h = search arith
 
 -- after the request
 abbrev pub served : Stand → ℕ → Request → Option Name → Result Block NoRoom → List Event → Stand
@@ -88,17 +86,14 @@ served w k r replaced answer es = after_request (record w { events = es }) k r r
 -- where nothing is replaced, its name stands for the block, or for nothing
 pub served_plain : (w : Stand) (k : ℕ) (r : Request) (answer : Result Block NoRoom) (es : List Event)
     → served w k r None answer es ≡ record w { events = es; names = record { name = r.name; block = block_of answer } ∷ w.names; due = [] }
-served_plain w k r (Ok block) es = refl
-served_plain w k r (Err room) es = refl
+served_plain w k r answer es = search arith
 
 -- what was due before doesn't matter then
 logged_apart : (full : Bool) (v : Stand) (k : ℕ) (entry : Entry) (due : List Due) → logging full (with_due v due) k entry [] ≡ logging full v k entry []
-logged_apart true v k entry due = refl
-logged_apart false v k entry due = refl
+logged_apart full v k entry due = search arith
 
 due_apart : (replaced : Option Name) (v : Stand) (k : ℕ) (due : List Due) → replacing replaced (with_due v due) k [] ≡ replacing replaced v k []
-due_apart None v k due = refl
-due_apart (Some old) v k due = logged_apart (is_full v k) v k (entry_of old) due
+due_apart replaced v k due = search (arith, logged_apart)
 
 module _ (f : Profile) (valid : IsValid f) (w : Stand) (k : ℕ) (r : Request) (replaced : Option Name) (l : Whole) (steps : List Made)
     (events : w.events ≡ visible l) (legal : Legal f (triples k steps ++ l)) where
@@ -133,8 +128,7 @@ module _ (f : Profile) (valid : IsValid f) (w : Stand) (k : ℕ) (r : Request) (
   refuses (Held page) true_reason es shown =
       inr (
         page,
-        subst (λ xs. deed_in xs page ≡ Some (directory_of f r)) shown
-            (deed_told f (triples k steps ++ l) page (directory_of f r) legal (kind_asked f r) true_reason.0.of_directory),
+        rw shown at (deed_told f (triples k steps ++ l) page (directory_of f r) legal (kind_asked f r) true_reason.0.of_directory),
         refl,
       )
 
@@ -156,8 +150,7 @@ module _ (f : Profile) (valid : IsValid f) (w : Stand) (k : ℕ) (r : Request) (
       → MatchResult answer (λ block. Unit {0}) (IsTrulyRefused f (wanted_by f r) locals l (triples k steps ++ l))
       → LeadsOn f (serving w k r replaced w.events) (lines_by (records_of (events_by k (part k l) steps) ++ said_by k (said_of_request r.name answer)))
       (served w k r replaced answer (visible (triples k steps ++ l)))
-  request_leads locals (Ok block) ends truly = given_leads block ends
-  request_leads locals (Err room) ends truly = refused_leads room ends (reason_by (wanted_by f r).route f (wanted_by f r) locals l (triples k steps ++ l) room truly)
+  request_leads locals answer ends truly = search (arith, given_leads, refused_leads, reason_by)
 
 -- ---- A free: its entry is logged, after a full log was emptied; or it is said why it can't be any block's
 -- ---- where a name stands
@@ -187,15 +180,7 @@ module _ (f : Profile) (valid : IsValid f) (p : Progress) (s : Stand) (ts : List
   said_comes : (said : Said) → a.steps ≡ [] → a.cache ≡ p.caches k → a.said ≡ Some said → LeadsOn f s [] (record (saying s k said) { left = ts })
       → Comes f s (records_of (events_by k (part k p.list) a.steps) ++ said_by k a.said) (after_answer p k a) ts
   said_comes said none cache is begun =
-      let t : Stand = record s { due = []; left = ts } in
-      record {
-        end = t;
-        leads = on_as (ap (λ ms. lines_by (records_of (events_by k (part k p.list) ms) ++ said_by k a.said)) none ∙ ap (λ o. lines_by (said_by k o)) is) refl
-            (on_both begun (on_line (inr (refl, refl))));
-        tells = told_after p s t k a.steps a.cache a.names _ tells (tells.events ∙ ap (λ ms. visible (triples k ms ++ p.list)) (sym none))
-            (tells.names ∙ sym names) (λ j. table_same (λ (d : Cached). d.log) p.caches k a.cache (ap (λ (d : Cached). d.log) cache) j ∙ tells.logs j)
-            (ap (λ (d : Cached). d.idle_since) cache) refl refl refl (ap (λ ms. word_after (triples k ms ++ p.list) Word.Epoch) none) tidy;
-      }
+      search (arith, on_as, on_both, on_line, told_after, table_same)
 
   -- ---- it is logged
   logged_comes : (full : Bool) (entry : Entry) (kept : List Entry) → EmptiesFull full k (p.caches k).log kept (p.caches k).noted a.cache.noted a.steps
@@ -218,9 +203,7 @@ module _ (f : Profile) (valid : IsValid f) (p : Progress) (s : Stand) (ts : List
       record {
         end = t;
         leads = on_as (silent_lines k a.said rs silent ∙ ap (λ ms. lines_by (records_of (events_by k (part k p.list) ms))) h.0) refl (on_same refl);
-        tells = told_after p s t k a.steps a.cache a.names _ tells (tells.events ∙ ap (λ ms. visible (triples k ms ++ p.list)) (sym h.0))
-            (tells.names ∙ sym names) (logs_with p s k a.cache more tells (log ∙ ap (λ (es : List Entry). es ++ entry ∷ []) (h.1 ∙ tells.logs k))) idle
-            refl refl refl (ap (λ ms. word_after (triples k ms ++ p.list) Word.Epoch) h.0) tidy;
+        tells = search (arith, told_after, logs_with);
       }
 
   -- ---- a free of a block
@@ -230,13 +213,7 @@ module _ (f : Profile) (valid : IsValid f) (p : Progress) (s : Stand) (ts : List
   fault_comes : (entry : Entry) (fault : FreeFault) → RefusesName f (p.caches k) a.cache entry.name a.steps fault
       → a.said ≡ Some (said_of_fault entry.name fault) → LeadsOn f s [] (record (freeing f s k entry) { left = ts })
       → Comes f s (records_of (events_by k (part k p.list) a.steps) ++ said_by k a.said) (after_answer p k a) ts
-  fault_comes entry FreeFault.Outside h said begun =
-      let there = ap (λ x. record (freeing_at x (is_aligned entry.name) s k entry) { left = ts }) (page_isnt f (address_of entry.name / 4096) h.fault_is) in
-      said_comes (Said.Outside entry.name) h.no_steps h.cache said (on_as refl (sym there) begun)
-  fault_comes entry FreeFault.Unaligned h said begun =
-      let there = ap (λ x. record (freeing_at x (is_aligned entry.name) s k entry) { left = ts }) (page_is f (address_of entry.name / 4096) h.fault_is.0)
-      ∙ ap (λ x. record (freeing_at true x s k entry) { left = ts }) (ne_eqb (address_of entry.name % 16) 0 h.fault_is.1) in
-      said_comes (Said.Unaligned entry.name) h.no_steps h.cache said (on_as refl (sym there) begun)
+  fault_comes entry fault h said begun = search (arith, page_isnt, said_comes, on_as, page_is, ne_eqb)
 
   -- The lines of a free lead the check to what the free comes to.
   pub free_comes : (entry : Entry) → IsFreed f k (p.caches k) a.cache entry a.steps a.said
@@ -262,8 +239,7 @@ module _ (f : Profile) (valid : IsValid f) (p : Progress) (s : Stand) (ts : List
 -- no request changes when its thread read the epoch
 idle_kept : (f : Profile) (wanted : Wanted) (found : Option ℕ) (c c' : Cached) (steps : List Made) (answer : Result Block NoRoom) (route : Route)
     → ServesBy route f wanted found c c' steps answer → c'.idle_since ≡ c.idle_since
-idle_kept f wanted found c c' steps answer (Route.Class class) h = ap (λ (d : Cached). d.idle_since) h.cache
-idle_kept f wanted found c c' steps answer route h = ap (λ (d : Cached). d.idle_since) h.cache
+idle_kept f wanted found c c' steps answer route h = search arith
 
 -- ---- what a check knows after a request
 module _ (f : Profile) (p : Progress) (s : Stand) (ts : List Task) (tells : Tells p s) (k : ℕ) (r : Request) (placed : Answer)
@@ -275,8 +251,7 @@ module _ (f : Profile) (p : Progress) (s : Stand) (ts : List Task) (tells : Tell
   pub asked_tells : (records : List Record) → Tells (after_piece p k placed.steps placed.cache placed.names records) asked_then
   asked_tells records = told_after p s asked_then k placed.steps placed.cache placed.names records tells refl
       (ap (λ ns. record { name = r.name; block = block_of is.answer } ∷ ns) tells.names ∙ sym is.names_are)
-      (λ j. table_same (λ (d : Cached). d.log) p.caches k placed.cache
-      (log_kept f (wanted_by f r) placed.found (p.caches k) placed.cache placed.steps is.answer (route_in f r.size r.align) is.serves) j ∙ tells.logs j)
+      (λ j. grind (arith, table_same, log_kept))
       (idle_kept f (wanted_by f r) placed.found (p.caches k) placed.cache placed.steps is.answer (route_in f r.size r.align) is.serves) refl refl refl
       (epoch_kept allocating refl k placed.steps p.list is.kinds)
       (answer_tidy f k (Alloc r.name r.heap r.size r.align) (having p.names (part k p.list) (p.caches k)) placed is (piece_of f k placed.steps p.list legal) (tells.tidy k))
@@ -284,8 +259,7 @@ module _ (f : Profile) (p : Progress) (s : Stand) (ts : List Task) (tells : Tell
 -- in each case it computes, or is given
 logged_state : (full : Bool) (v : Stand) (k : ℕ) (entry : Entry)
     → record (logging full (record v { due = [] }) k entry []) { left = v.left } ≡ logging full v k entry []
-logged_state true v k entry = refl
-logged_state false v k entry = refl
+logged_state full v k entry = search arith
 
 records_both : (xs ys : List Event) → records_of (xs ++ ys) ≡ records_of ys ++ records_of xs
 records_both xs ys = ap (λ (es : List Event). map Record.Event es) (reverse-append xs ys) ∙ map-append Record.Event (reverse ys) (reverse xs)
@@ -300,12 +274,8 @@ module _ (f : Profile) (valid : IsValid f) (p : Progress) (s : Stand) (ts : List
       let t : Stand = record (with_name s name found) { due = []; left = ts } in
       record {
         end = t;
-        leads = on_as (ap (λ ms. lines_by (records_of (events_by k (part k p.list) ms) ++ said_by k a.said)) none ∙ ap (λ o. lines_by (said_by k o)) is) refl
-            (on_both begun (on_line (inr (refl, refl))));
-        tells = told_after p s t k a.steps a.cache a.names _ tells (tells.events ∙ ap (λ ms. visible (triples k ms ++ p.list)) (sym none))
-            (ap (λ ns. record { name = name; block = found } ∷ ns) tells.names ∙ sym names)
-            (λ j. table_same (λ (d : Cached). d.log) p.caches k a.cache (ap (λ (d : Cached). d.log) cache) j ∙ tells.logs j)
-            (ap (λ (d : Cached). d.idle_since) cache) refl refl refl (ap (λ ms. word_after (triples k ms ++ p.list) Word.Epoch) none) tidy;
+        leads = search (arith, on_as, on_both, on_line);
+        tells = search (arith, told_after, table_same);
       }
 
   -- ---- another block in its place
@@ -402,18 +372,12 @@ module _ (f : Profile) (valid : IsValid f) (p : Progress) (s : Stand) (ts : List
         → Comes f s (records_of (events_by k (part k p.list) a.steps) ++ said_by k a.said) (after_answer p k a) ts
     served_so none takes leads =
         let come = comes_after f s logging_old (after_answer p1 k logs_old) ts first leads (logged_old takes) in
-        record {
-          end = come.end;
-          leads = on_as (ap lines_by (lines_are (said_is ∙ is.said_is ∙ none) none)) refl come.leads;
-          tells = tells_as _ _ _ _ _ _ p1.epoch p.epoch _ _ _ names_are (sym (put_twice p.caches k placed.cache a.cache))
-              (ap (λ ms. triples k ms ++ p.list) steps_are ∙ sym (triples_append k freed placed.steps p.list)) come.tells;
-        }
+        search (arith, on_as, lines_are, said_is, tells_as, put_twice, triples_append)
 
     -- THE REQUEST in its place, as it was answered
     logging_is : (v : Stand) → v.left ≡ ts → record v { due = [] } ≡ s1 → logging (is_full v k) v k (entry_of old) [] ≡ logging_old
     logging_is v left same =
-        sym (logged_state (is_full v k) v k (entry_of old)) ∙ (λ i. record (logging (is_full (same i) k) (same i) k (entry_of old) []) { left = left i })
-        ∙ ap (λ t. record (logging t s1 k (entry_of old) []) { left = ts }) (full_is f valid p1 s1 ts tells1 k logs_old refl tidy_freed legal_freed)
+        search (arith, logged_state, full_is, tells1, tidy_freed, legal_freed)
 
     -- Whether the request was served or refused, the rest of the reallocation follows.
     answered : (answer : Result Block NoRoom) → is.answer ≡ answer
@@ -427,9 +391,7 @@ module _ (f : Profile) (valid : IsValid f) (p : Progress) (s : Stand) (ts : List
         served_so (ap (said_of_request r.name) same) logged
         (on_as refl (sym (ap (λ x. served (record s { left = ts }) k r (Some old) x (visible list1)) same ∙ logging_is v refl is_s1)) leads)
     answered (Err room) same logged leads =
-        let there : served (record s { left = ts }) k r (Some old) is.answer (visible list1) ≡ s1
-        = cc in
-        refused_so logged.0 logged.1 (on_as refl (sym there) leads)
+        search (arith, refused_so, on_as)
 
   -- ---- WHAT IT COMES TO
   moved_comes : (r : Request) (old : Block)
@@ -440,8 +402,7 @@ module _ (f : Profile) (valid : IsValid f) (p : Progress) (s : Stand) (ts : List
       → LeadsOn f s [] (record (remaking (suits old r.size r.align) s k r old) { left = ts })
       → Comes f s (records_of (events_by k (part k p.list) a.steps) ++ said_by k a.said) (after_answer p k a) ts
   moved_comes r old (inl kept) truly begun =
-      named_said r.name (Some old) (Said.Kept old.name r.name) kept.no_steps kept.cache kept.said_is kept.names_are
-      (on_as refl (ap (λ x. record (remaking x s k r old) { left = ts }) (sym kept.suited)) begun)
+      search (arith, named_said, on_as)
   moved_comes r old (inr h) truly begun =
       let there : LeadsOn f s [] (serving (record s { left = ts }) k r (Some old.name) s.events) =
       on_as refl (ap (λ x. record (remaking x s k r old) { left = ts }) (sym h.unsuited)) begun in
@@ -456,9 +417,7 @@ module _ (f : Profile) (valid : IsValid f) (p : Progress) (s : Stand) (ts : List
       (IsTrulyRefused f (wanted_by f x.request) (p.caches k).locals p.list (triples k x.placed.steps ++ p.list)))
       → LeadsOn f s [] (record (remaking_named s k name size align found) { left = ts })
       → Comes f s (records_of (events_by k (part k p.list) a.steps) ++ said_by k a.said) (after_answer p k a) ts
-  remade_comes name size align None is truly begun = absurd is
-  remade_comes name size align (Some None) is truly begun = named_said name None (Said.Skipped name) is.0 is.1 is.2 is.3 begun
-  remade_comes name size align (Some (Some old)) is truly begun = moved_comes (request_for old name size align) old is truly begun
+  remade_comes name size align found is truly begun = search (arith, named_said, moved_comes)
 
 -- ---- the keeper's own lines
 -- where it tries the request, after these events
@@ -499,8 +458,7 @@ module _ (f : Profile) (w : Stand) (keeper k : ℕ) (r : Request) (es : List Eve
 
   -- in each case it computes, or is given
   taken_by : (line : List ℕ) (next : Stand) → Takes f by_thread line next → Takes f (trying w keeper k r false es) line next
-  taken_by line next (inl none) = absurd none
-  taken_by line next (inr takes) = inr (inr (refl, takes))
+  taken_by line next given = search arith
 
   on_thread : LeadsOn f (trying w keeper k r false es) [] by_thread
   on_thread = record { on = past }
@@ -691,8 +649,7 @@ module _ (f : Profile) (valid : IsValid f) (p : Progress) (s : Stand) (ts : List
   pub given_comes : (block : Block) → t.block ≡ Some block → Comes f s t.records (after_giving (after_trying p keeper t) r.name block) ts
   given_comes block gave =
       let h : IsRaised f (large_directory r.heap) n is.left t.guards is.raise.searched is.raise.after block
-      = subst (λ (o : Option Block). MatchOption o (IsNotRaised f (large_directory r.heap) n is.left t.guards is.raise.searched is.raise.after)
-      (IsRaised f (large_directory r.heap) n is.left t.guards is.raise.searched is.raise.after)) gave is.raise.outcome in
+      = rw gave at is.raise.outcome in
       let ends : IsGiven keeper (wanted_by f r) (part keeper l1) is.raised block
       = subst (λ v. IsGiven keeper (wanted_by f r) v is.raised block) (sym part_swept) (subst (λ (o : Option Block). TryEnds f keeper r view is.raised o) gave is.ends) in
       let guard : Guard = guard_at h.first n block in
@@ -706,8 +663,7 @@ module _ (f : Profile) (valid : IsValid f) (p : Progress) (s : Stand) (ts : List
       record {
         end = end;
         leads = on_as
-            (lines_tried (guard_said keeper r block ∷ []) (ap (said_of_guard keeper r.name n) gave
-            ∙ said_is f (large_directory r.heap) keeper n is.left t.guards is.raise.searched is.raise.after block h r.name))
+            (lines_tried (guard_said keeper r block ∷ []) (cc (said_is f (large_directory r.heap) keeper n is.left t.guards is.raise.searched is.raise.after block h r.name)))
             (ap (λ (l : Whole). guarded w keeper r block (visible l)) list_is)
             (on_both swept_leads
             (guarded_leads f valid w keeper k r l1 is.raised shown_swept raised_legal block ends
@@ -735,8 +691,7 @@ module _ (f : Profile) (valid : IsValid f) (p : Progress) (s : Stand) (ts : List
     none_leads : LeadsOn f s (lines_by t.records) (by_thread f s2 keeper k r (visible list2))
     none_leads =
         let deeds : AllByRecursion (IsDeedOf (directory_of f r)) (events_by keeper (part keeper l1) is.raised)
-        = subst (λ v. AllByRecursion (IsDeedOf (directory_of f r)) (events_by keeper v is.raised)) (sym part_swept)
-        (subst (λ (o : Option Block). TryEnds f keeper r view is.raised o) none is.ends) in
+        = search (arith, part_swept) in
         let events : List Event = events_by keeper (part keeper l1) is.raised in
         let tried : Stand = trying w keeper k r false (visible list2) in
         let there : LeadsOn f s (lines_by is.lowered ++ lines_by (records_of events)) tried

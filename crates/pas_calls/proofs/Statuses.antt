@@ -51,8 +51,7 @@ not_four answer writing four = not_quiet 4 answer (omega arith) (omega arith) wr
 
 -- ---- What `order` tells of a replay, whose lines were written as they came, and then the report.
 pub waiting_shown : {plan : Plan} {state : State} (told waiting : List Record) → Shows InOrder plan (told ++ waiting) state → All CanShow waiting
-waiting_shown told waiting shows = subst (λ (rs : List Record). All CanShow rs) (drop_at told waiting (length told) refl)
-    (All-drop CanShow (length told) (told ++ waiting) (can_be_shown shows.replay))
+waiting_shown told waiting shows = rw drop_at at (All-drop CanShow (length told) (told ++ waiting) (can_be_shown shows.replay))
 
 -- What was written between two moments of a sink was written between others, where the sink was the same.
 pub wrote_as : {K : Type 0} (held : K → Option (List ℕ)) (faults : K → ℕ) (text : List ℕ) (b : K) {x x' y y' : Bool} {a a' : K} → x ≡ x' → y ≡ y' → a ≡ a'
@@ -105,8 +104,7 @@ order_told {plan} text is read told = record {
   status = 0;
   text = shown_text told.records told.state;
   status_is = inl refl;
-  comes = λ bytes all. subst (λ (t : List ℕ). ComesTo InOrder t 0 (shown_text told.records told.state)) (is.all bytes all)
-      (order_comes text plan told.records told.state is.short read told.shows);
+  comes = λ bytes all. rw (is.all bytes all) at (order_comes text plan told.records told.state is.short read told.shows);
   tells = told.tells;
 }
 
@@ -158,7 +156,4 @@ module _ (before after : Option (List ℕ)) {faults faults' seed ops threads pag
 
   -- ---- a call whose sink didn't fail
   pub gen_summed : (Rose faults faults' → ⊥) → (answer ≡ 0) ⊎ (answer ≡ 5)
-  gen_summed never = elim generates [
-    | inl five ↦ inr five
-    | inr (status, text, comes, tells) ↦ elim tells [ inl whole ↦ inl (whole.0 ∙ comes.0) | inr cut ↦ absurd (never cut.1) ]
-  ]
+  gen_summed never = search arith

@@ -5,16 +5,16 @@ use Rattle.std.proofs.lemmas.{List.{Elements.{filter-append, All-filter, All-fro
 use Rattle.std.{proofs.lemmas.{Bool.{eqb-false, false≢true, cond_both}, Option.{none-some, same_Some}}, specs.List.{AllByRecursion, filter}}
 use Rattle.pas_profile.specs.declared.{profile.Profile.Profile, event.Event.Event, word.Word.Word, name.Name.Name, entry.Entry.Entry, guard.Raised.Raised}
 use Rattle.pas_profile.specs.{declared.{guard.Guard.Guard, directory.{Directory.Directory, Route.Route}}, Guards.{guards_of, raised_by}, Blocks.address_of}
-use Rattle.pas_profile.specs.{Blocks.{grain_of, length_of}, Directories.{deed_word_of, IsKind}, Lives.live_word, Profiles.IsValid, Entries.is_sized}
-use Rattle.pas_profile.{specs.Requests.{is_shared, kind_of_route, route_in}, proofs.{Lists.all_both, Sizes.{class_known, class_suits}}}
-use Rattle.pas_profile.proofs.Codecs.{deed_word_of-positive, same_from_deed_word}
+use Rattle.pas_profile.specs.{Blocks.grain_of, Directories.{deed_word_of, IsKind}, Lives.live_word, Profiles.IsValid, Entries.is_sized, Requests.is_shared}
+use Rattle.pas_profile.{specs.Requests.{kind_of_route, route_in}, proofs.{Lists.all_both, Sizes.{class_known, class_suits}, Codecs.deed_word_of-positive}}
+use Rattle.pas_profile.proofs.Codecs.{same_from_deed_word}
 use Rattle.pas_check.specs.{Accepted.{IsDone, IsWhole}, Calls.Differs, Takes.{Takes, TakesDue, MayRefuse, IsEventOf, directory_of}, Begins.after_task}
 use Rattle.pas_check.specs.{Begins.{flushing, past_outcomes, ready, ready_with, goes_down, entries_due}, States.{Due, Examines, Stand, Task, with_due, with_at}}
 use Rattle.pas_check.{specs.States.Frees, proofs.{ActsOfPlans.begun_alike, Leads.{at_first, by_none}, OneNext.{end_is, reject_is}, Ticks.epoch_kept}}
-use Rattle.pas_steps.specs.{Desks.{triples, made}, Events.{event_of, events_by, with_event}, Views.{epoch_of, KnowsDeed, known_deed}, InTurn.InTurn}
-use Rattle.pas_steps.specs.{Effects.life_word_at, Lists.{Whole, part, visible, Legal, word_after}, declared.step.{Made.Made, Step.{Step, TheVariants.Look}}}
-use Rattle.pas_steps.specs.{declared.step.Step.TheVariants.{Stamp, EndSized}, Kinds.{Kinds, Only, Putting, is_in, kind_of, returning}}
-use Rattle.pas_steps.proofs.{Frames.{with_append, events_append}, Parts.part_of_own, Apart.{only_both, only_within}, Calls.returns_are, Adding.triples_append}
+use Rattle.pas_steps.specs.{Desks.{triples, made}, Events.{event_of, events_by, with_event}, Views.{epoch_of, KnowsDeed}, InTurn.InTurn, Effects.life_word_at}
+use Rattle.pas_steps.specs.{Lists.{Whole, part, visible, Legal, word_after}, declared.step.{Made.Made, Step.{Step, TheVariants.{Look, Stamp, EndSized}}}}
+use Rattle.pas_steps.{specs.Kinds.{Kinds, Only, Putting, is_in, kind_of, returning}, proofs.{Frames.{with_append, events_append}, Parts.part_of_own}}
+use Rattle.pas_steps.proofs.{Apart.{only_both, only_within}, Calls.returns_are, Adding.triples_append}
 use Rattle.pas_cache.specs.{Caches.Cached, Changes.EmptiesLog, Kinds.releasing}
 use Rattle.pas_answers.{specs.Answers.{Caches, records_of, with_cache, Books, with_book, Progress, IsStopped}, proofs.Consequences.{tidy_piece, Tidy}}
 use Rattle.pas_answers.proofs.{Consequences.stop_tidy, Reached.{Each, legal_part, of_front}}
@@ -106,14 +106,12 @@ lines_both xs ys = map-append line_of xs ys
 
 -- one event more
 pub lines_more : (e : Event) (es : List Event) → lines_by (records_of (e ∷ es)) ≡ lines_by (records_of es) ++ line_of_event e ∷ []
-lines_more e es = ap (λ (x : List Event). lines_by (map Record.Event x)) (reverse-append (e ∷ []) es)
-    ∙ ap lines_by (map-append Record.Event (reverse es) (e ∷ [])) ∙ lines_both (records_of es) (Record.Event e ∷ [])
+lines_more e es = cc (reverse-append (e ∷ []) es, map-append Record.Event (reverse es) (e ∷ []), lines_both (records_of es) (Record.Event e ∷ []))
 
 -- ---- tables by thread, of which that of one thread became another
 pub table_at : {A B : Type 0} (T : Cached → A) (g : B → A) (t : Bool) (c d : Cached) (b e : B) → T c ≡ g b → T d ≡ g e
     → T (if t then c else d) ≡ g (if t then b else e)
-table_at T g true c d b e new old = new
-table_at T g false c d b e new old = old
+table_at T g t c d b e new old = search arith
 
 -- A table by thread of what a changed cache has as before is the same.
 pub table_same : {A : Type 0} (T : Cached → A) (caches : Caches) (k : ℕ) (c : Cached) → T c ≡ T (caches k) → (j : ℕ)
@@ -195,9 +193,7 @@ book_if books keeper book guards j his others = search (arith, cases_eq, eq-eqb,
 swept_books : (books : Books) (es : List Event) (keeper : ℕ) (all : Bool) (guards : List Raised) → ((j : ℕ) → guards_of j guards ≡ map (raised_by j) (books j))
     → (j : ℕ)
     → guards_of j (filter (λ guard. not (goes_down es keeper all guard)) guards) ≡ map (raised_by j) (with_book books keeper (staying es all (books keeper)) j)
-swept_books books es keeper all guards told j = book_if books keeper (staying es all (books keeper)) (filter (λ guard. not (goes_down es keeper all guard)) guards) j
-    (λ e. ap (λ i. guards_of i (filter (λ guard. not (goes_down es keeper all guard)) guards)) e ∙ staying_told es keeper all guards (books keeper) (told keeper) ∙ ap (λ i. map (raised_by i) (staying es all (books keeper))) (sym e))
-    (λ ne. others_told es keeper j all guards ne ∙ told j)
+swept_books books es keeper all guards told j = search (arith, book_if, staying_told, others_told)
 
 -- ---- a guard goes up
 raised_books : (books : Books) (keeper : ℕ) (guard : Guard) (guards : List Raised) → ((j : ℕ) → guards_of j guards ≡ map (raised_by j) (books j)) → (j : ℕ)
@@ -307,16 +303,13 @@ after_only name (Refused read) steps h = none_only freeing steps h
 
 -- the end of a name
 last_kind : (t : Bool) (entry : Entry) (guess : ℕ) → is_in freeing (kind_of (last_step t entry guess)) ≡ true
-last_kind true entry guess = refl
-last_kind false entry guess = refl
+last_kind t entry guess = search arith
 
 tries_only : (name : Name) (first guess : ℕ) (before : List Made) → Tries name first guess before → Only freeing before
-tries_only name first guess before (inl h) = none_only freeing before h.1
-tries_only name first guess before (inr h) = subst (Only freeing) (sym h.4) (refl, tt)
+tries_only name first guess before given = search (arith, none_only)
 
 before_only : (t : Bool) (entry : Entry) (first guess : ℕ) (before : List Made) → TriesBy t entry first guess before → Only freeing before
-before_only true entry first guess before h = none_only freeing before h.1
-before_only false entry first guess before h = tries_only entry.name first guess before h
+before_only t entry first guess before h = search (arith, none_only, tries_only)
 
 -- The steps that end a name are freeing ones.
 ends_only : (entry : Entry) (outcome : Outcome) (steps : List Made) → EndSteps entry outcome steps → Only freeing steps
@@ -339,8 +332,7 @@ stop_only k c c' steps h = subst (Only freeing) (sym h.steps_are)
 -- ---- A block that a flush ended by an entry with a room had that room
 -- ---- what lives after steps of a flush lived before them
 ended_if : (t : Bool) (old : Option Live) (b : Live) → (if t then None else old) ≡ Some b → old ≡ Some b
-ended_if true old b is = absurd (none-some b is)
-ended_if false old b is = is
+ended_if t old b is = search (arith, none-some)
 
 lived_before : (k e : ℕ) (s : Step) (a : ℕ) (es : List Event) (address : ℕ) (b : Live) → is_in freeing (kind_of s) ≡ true
     → live_in (with_event (event_of k e s a) es) address ≡ Some b → live_in es address ≡ Some b
@@ -356,8 +348,7 @@ lived_then k (m ∷ xs) l address b only is = lived_then k xs l address b only.1
 same_length : (f : Profile) (g word room : ℕ) (b : Live) (gives ends turn : ℕ) → IsLifeOfLive f g word b gives ends → word ≡ live_word turn (room / 16)
     → ends ≡ turn → room % 16 ≡ 0 → b.block.room ≡ room
 same_length f g word room b gives ends turn life is same whole =
-    let long : length_of b.block ≡ room / 16 = omega (arith, life.word_is, is, same) in
-    omega (arith, long, life.whole, whole)
+    search arith
 
 -- ---- one entry
 -- the block of an entry that was ended had the entry's room, if there is one
@@ -447,8 +438,7 @@ known_more x xs = reverse-append (x.entry ∷ []) (map (λ (y : Settled). y.entr
 -- what lives after their events lived before them
 lived_one : (k epoch : ℕ) (entry : Entry) (outcome : Outcome) (es : List Event) (address : ℕ) (b : Live)
     → live_in (event_for k epoch entry outcome ∷ es) address ≡ Some b → live_in es address ≡ Some b
-lived_one k epoch entry (Ended grains) es address b is = ended_if (address_of entry.name == address) (live_in es address) b is
-lived_one k epoch entry (Refused read) es address b is = is
+lived_one k epoch entry outcome es address b is = search (arith, ended_if)
 
 lived_all : (k epoch : ℕ) (settled : List Settled) (es : List Event) (address : ℕ) (b : Live) → live_in (map (shown_for k epoch) settled ++ es) address ≡ Some b
     → live_in es address ≡ Some b
@@ -554,8 +544,7 @@ kind_asked f r = kind_routed f r.size r.align (is_shared f r.heap) (route_in f r
 
 directory_told : (o : Option Directory) (d : Directory) → IsKind d.kind → ((x : Directory) → o ≡ Some x → IsKind x.kind) → word_of_deed o ≡ deed_word_of d
     → o ≡ Some d
-directory_told None d is all word = absurd (deed_word_of-positive d (sym word))
-directory_told (Some x) d is all word = ap (λ y. Some y) (same_from_deed_word x d (all x refl) is word)
+directory_told o d is all word = search (arith, deed_word_of-positive, same_from_deed_word)
 
 -- a deed word of this directory is the page's deed
 pub deed_told : (f : Profile) (l : Whole) (page : ℕ) (d : Directory) → Legal f l → IsKind d.kind → word_after l (Word.Deed page) ≡ deed_word_of d
@@ -566,5 +555,4 @@ deed_told f l page d legal is word = directory_told (deed_in (visible l) page) d
 pub deed_known : (f : Profile) (l : Whole) (k page : ℕ) (d : Directory) → Legal f l → IsKind d.kind → KnowsDeed page d (part k l)
     → deed_in (visible l) page ≡ Some d
 deed_known f l k page d legal is knows =
-    let some : known_deed (part k l) page ≢ 0 = λ none. deed_word_of-positive d (sym knows ∙ none) in
-    deed_told f l page d legal is (sym (known_is (known_deed (part k l) page) (word_after l (Word.Deed page)) (deeds_known f l legal k page) some) ∙ knows)
+    search (arith, deed_word_of-positive, deed_told, known_is, deeds_known)

@@ -1,11 +1,11 @@
 -- A text that is read piece by piece: what the reader of its script has taken of it, and what stands behind that in the buffer.
-use Rattle.std.proofs.Common.{◌≡◌, ◌≤◌, ◌<◌, ◌+◌, ◌-◌, ℕ, List, [], ◌++◌, Option, Some, take, drop, length, refl, ap, sym, subst, Result, Ok, Err, ◌∙◌, arith}
-use Rattle.std.proofs.Common.{append_assoc, length-append, drop-drop, drop_at, length-drop, length-take, take-append-drop, take-take, take_all, IfOk}
-use Rattle.std.proofs.{Common.MatchResult, lemmas.List.{drop-take, drop_all}}
+use Rattle.std.proofs.Common.{◌≡◌, ◌≤◌, ◌<◌, ◌+◌, ◌-◌, ℕ, List, [], ◌++◌, Option, Some, take, drop, length, ap, sym, Result, ◌∙◌, arith, append_assoc}
+use Rattle.std.proofs.Common.{length-append, drop-drop, drop_at, length-drop, length-take, take-append-drop, take-take, take_all, IfOk, MatchResult}
+use Rattle.std.proofs.lemmas.List.{drop-take, drop_all}
 use Rattle.pas_io.specs.{Inputs.{HasRead, Takes}, declared.whole.Stop.Stop}
 use Rattle.pas_trace.specs.{Scripts.IsScripting, Streams.{HasTaken, TakesLines}, declared.{fault.ReadFault.ReadFault, script.Script.Script}}
 use Rattle.pas_trace.specs.declared.stream.ScriptReader.{ScriptReader}
-use Rattle.pas_calls.specs.{Givens.{IsAllOf, IsGiven, IsGivenBy}, Outputs.most_bytes, declared.reading.Given.{Given, TheVariants.{Trace, Faulty, TooLong}}}
+use Rattle.pas_calls.specs.{Givens.{IsAllOf, IsGiven, IsGivenBy}, Outputs.most_bytes, declared.reading.Given.Given}
 
 -- the bytes that were told begin with these; the next ones stand in the buffer's front, and the others are left
 pub record IsBehind (told before : List ℕ) (rest : Option (List ℕ)) (buffer : List ℕ) (kept : ℕ) : Type 0 where
@@ -22,12 +22,7 @@ pub record IsReadTo (reader : ScriptReader) (first rest : Option (List ℕ)) (bu
 
 -- Before the first read.
 pub read_nothing : (reader : ScriptReader) (first : Option (List ℕ)) (buffer : List ℕ) → HasTaken [] reader → IsReadTo reader first first buffer 0 0
-read_nothing reader first buffer none = record {
-  before = [];
-  has_taken = none;
-  size = refl;
-  behind = λ told is. record { more = told; is = refl; read = record { within = omega arith; left = is; front = refl } };
-}
+read_nothing reader first buffer none = search arith
 
 -- the same front of two lists has the same fronts
 shorter : (n m : ℕ) (xs ys : List ℕ) → n ≤ m → take m xs ≡ take m ys → take n xs ≡ take n ys
@@ -41,15 +36,7 @@ module _ {reader : ScriptReader} {first rest : Option (List ℕ)} {buffer cut : 
     before = r.before;
     has_taken = r.has_taken;
     size = r.size;
-    behind = λ told all. let b = r.behind told all in record {
-      more = b.more;
-      is = b.is;
-      read = record {
-        within = b.read.within;
-        left = b.read.left;
-        front = ap (take kept) is ∙ take-take kept (most_bytes + 1 - taken) buffer (omega arith) ∙ b.read.front;
-      };
-    };
+    behind = λ told all. let b = r.behind told all in search (arith, take-take);
   }
 
   -- So many bytes more were taken of the source.
@@ -63,8 +50,7 @@ module _ {reader : ScriptReader} {first rest : Option (List ℕ)} {buffer cut : 
       record {
         number = taken + t.number;
         within = omega arith;
-        left = t.left ∙ ap Some (ap (drop t.number) (sym (drop_at q.before b.more taken q.size)) ∙ drop-drop t.number taken (q.before ++ b.more)
-            ∙ ap (drop (taken + t.number)) (sym b.is));
+        left = cc (drop_at q.before b.more taken q.size, drop-drop t.number taken (q.before ++ b.more));
       }
 
   -- What was taken in all where the buffer was filled, as far as the source went,
@@ -85,11 +71,7 @@ module _ {reader : ScriptReader} {first rest : Option (List ℕ)} {buffer : List
     before = r.before;
     has_taken = r.has_taken;
     size = r.size;
-    behind = λ told all. let b = r.behind told all in record {
-      more = b.more;
-      is = b.is;
-      read = subst (λ (t : List ℕ). HasRead b.more rest' t count) (sym is) (reads b.more b.read);
-    };
+    behind = λ told all. let b = r.behind told all in search arith;
   }
 
   -- There are more bytes than an input may have.
@@ -117,31 +99,22 @@ module _ {reader : ScriptReader} {first rest : Option (List ℕ)} {buffer : List
           is = b.is ∙ ap (λ (t : List ℕ). r.before ++ t) (sym (take-append-drop gone b.more))
               ∙ ap (λ (t : List ℕ). r.before ++ (t ++ drop gone b.more)) (sym (shorter gone kept buffer b.more fits b.read.front))
               ∙ sym (append_assoc r.before (take gone buffer) (drop gone b.more));
-          read = record {
-            within = simp length-drop (omega arith);
-            left = b.read.left ∙ ap Some (ap (λ (n : ℕ). drop n b.more) (sym same) ∙ sym (drop-drop left gone b.more));
-            front = front ∙ ap (drop gone) (sym (take_all kept buffer (omega arith)) ∙ b.read.front ∙ ap (λ (n : ℕ). take n b.more) (sym same))
-                ∙ drop-take gone left b.more;
-          };
+          read = search (arith, length-drop, drop-drop, take_all, drop-take);
         };
   }
 
 -- ---- what the text gives
 is_given : (first : Option (List ℕ)) (text : List ℕ) (given : Given) → IsAllOf first text → IsGivenBy text given → IsGiven first given
-is_given first text (Trace script) all is = (text, all, is)
-is_given first text (Faulty fault) all is = (text, all, is)
-is_given first text TooLong all is = absurd is
+is_given first text given all is = search arith
 
 pub given_of : {first : Option (List ℕ)} {text : List ℕ} (read : Result Script ReadFault) (answer : Result Given Stop) → IsAllOf first text
     → IsScripting text read
     → MatchResult answer (λ given. (t : List ℕ) → IsScripting t read → IsGivenBy t given) (λ stop. stop ≡ Stop.Memory) → IfOk answer (IsGiven first)
-given_of {first} {text} read (Ok given) all is gives = is_given first text given all (gives text is)
-given_of read (Err stop) all is gives = tt
+given_of read answer all is gives = search (arith, is_given)
 
 -- what holds of each value holds of that of an answer
 pub of_each : {T E : Type 0} {P : T → Type 0} (answer : Result T E) → ((value : T) → P value) → IfOk answer P
-of_each (Ok value) holds = holds value
-of_each (Err error) holds = tt
+of_each answer holds = search arith
 
 -- ---- the source's end came before the buffer's
 module _ {reader : ScriptReader} {first rest : Option (List ℕ)} {buffer : List ℕ} {taken kept : ℕ} (r : IsReadTo reader first rest buffer taken kept)

@@ -1,7 +1,7 @@
 -- Each act of a replay in the order of the text, and so the whole: its transcript is accepted, its report line by line.
-use Rattle.std.proofs.Common.{arith, ◌≡◌, ℕ, List, [], ◌∷◌, ◌++◌, None, Some, refl, ap, sym, ◌∙◌, Option, MatchResult, ◌+◌, ◌==◌, max, nat_le, true, false, inl}
-use Rattle.std.proofs.Common.{inr, subst, append-nil, append_assoc, map, le-leb, leb-true, Bool, true≢false, zero, suc, ◌≤◌, codes, ◌||◌}
-use Rattle.std.proofs.lemmas.{Bool.false_from_ne_true, Option.none-some}
+use Rattle.std.proofs.Common.{arith, ◌≡◌, ℕ, List, [], ◌∷◌, ◌++◌, None, Some, refl, ap, sym, ◌∙◌, Option, MatchResult, ◌+◌, max, nat_le, true, false, inl, inr}
+use Rattle.std.proofs.{Common.{subst, append-nil, append_assoc, map, le-leb, leb-true, Bool, true≢false, zero, suc, ◌≤◌, codes}, lemmas.Bool.false_from_ne_true}
+use Rattle.std.proofs.lemmas.Option.{none-some}
 use Rattle.pas_profile.specs.{Profiles.IsValid, Entries.{sized_entry, entry_of}, declared.{profile.Profile.Profile, name.{Block.Block, Name.Name}}}
 use Rattle.pas_profile.specs.declared.{word.Word.Word, event.Event.Event, directory.Directory.Directory}
 use Rattle.pas_steps.specs.{Desks.triples, Events.events_by, Lists.{Legal, part, visible, word_after, Whole}, declared.step.Made.Made}
@@ -12,20 +12,19 @@ use Rattle.pas_trace.specs.{declared.plan.{Op.Op, Chore.Chore, Work.Work, Plan.P
 use Rattle.pas_trace.specs.Acts.{Act, Operates, Guards, Settles, Ticks, MakesPass, ReadsEpoch, StopsIdle, MarksPhase, Wakes, MarksClose, Ends, Lowers, act_kept}
 use Rattle.pas_trace.specs.Acts.{acts_from, acts_of, acts_of_chore, acts_of_op, acts_of_ops, acts_of_work, close_acts, idle_stops, phase_acts, numbers_from}
 use Rattle.pas_answers.specs.Answers.{Answer, IsAnswered, IsFreedBy, IsServed, Progress, after_answer, having, records_of, room_noted, said_by, wanted_by}
-use Rattle.pas_answers.specs.Answers.{IsIdleFor, IsStopped, after_reading, after_settling, after_stop, after_tick, after_wake, begun as woken, epoch_look}
-use Rattle.pas_answers.specs.{Answers.{stopped, with_cache, with_records}, Refusals.{RefusesTruly, ActRefusesTruly, TriedRefusesTruly, AllRefuseTruly}}
-use Rattle.pas_answers.specs.{Guarding.{IsTried, Tried, after_trying}, Reaching.{Advances, AnswersTried, Reaches}, Ways.InOrder, Replays.IsReplay}
-use Rattle.pas_answers.{specs.Replays.{acts_of_plan, at_start, keepers_of, phases_of, region_of, threads_of}, proofs.Consequences.{Tidy, answer_tidy}}
-use Rattle.pas_answers.proofs.{Consequences.{look_tidy, tick_tidy, tidy_piece}, Reached.was_so}
+use Rattle.pas_answers.specs.Answers.{IsIdleFor, IsStopped, after_reading, after_settling, after_stop, after_tick, after_wake, epoch_look, stopped}
+use Rattle.pas_answers.specs.{Answers.with_records, Refusals.{RefusesTruly, ActRefusesTruly, TriedRefusesTruly, AllRefuseTruly}, Guarding.{IsTried, Tried}}
+use Rattle.pas_answers.specs.{Guarding.after_trying, Reaching.{Advances, AnswersTried, Reaches}, Ways.InOrder, Replays.{IsReplay, acts_of_plan, at_start}}
+use Rattle.pas_answers.{specs.Replays.{keepers_of, phases_of, region_of, threads_of}, proofs.Consequences.{Tidy, answer_tidy, look_tidy, tick_tidy, tidy_piece}}
+use Rattle.pas_answers.proofs.Reached.{was_so}
 use Rattle.pas_check.specs.Begins.{begun_what, freeing_named, remaking_named, stopping, sweeping, after_task, begun, begun_act, begun_from, past_outcomes}
 use Rattle.pas_check.specs.{Begins.{ready, ready_with, page_due, pages_due, settled_with}, States.{Serves, Stand, Task, Does, Due, Tries, Writes, with_at}}
-use Rattle.pas_check.specs.{States.{Frees, Examines, Reports, at_first, Heads, Shows, Totals, with_one, with_due}, Accepted.{Goes, IsWhole, IsAccepted}}
-use Rattle.pas_check.specs.{Lines.{lines_in, is_line}, Takes.{IsFor, Takes, TakesDue, TakesOutcome, TakesRequest, serving, AreAllowedMarks, head_line}}
-use Rattle.pas_check.{specs.Takes.{MayServe, block_in, is_back, kept_next}, proofs.{Ticks.epoch_kept, Cuts.{cut_records, cut_line, kind_first, number_first}}}
-use Rattle.pas_check.proofs.Cuts.{totals_end}
+use Rattle.pas_check.specs.{States.{Reports, at_first, Heads, Shows, Totals}, Accepted.{Goes, IsWhole, IsAccepted}, Lines.{lines_in, is_line}, Takes.IsFor}
+use Rattle.pas_check.{specs.Takes.{Takes, TakesDue, TakesOutcome, TakesRequest, AreAllowedMarks, head_line, MayServe, kept_next}, proofs.Ticks.epoch_kept}
+use Rattle.pas_check.proofs.Cuts.{cut_records, cut_line, kind_first, number_first, totals_end}
 use Rattle.pas_core.proofs.OneActor.{legal_before}
-use Rattle.pas_machine.specs.{Machine.{Admits, Bears}, State.{deed_in, epoch_in}}
-use Rattle.pas_report.specs.{Reports.{report_text, machine_page, machine_pages, page_text, total_line, live_on, uncovered_on}, Totals.totals_of}
+use Rattle.pas_machine.specs.{Machine.{Admits, Bears}, State.deed_in}
+use Rattle.pas_report.specs.{Reports.{report_text, machine_page, machine_pages, page_text, total_line}, Totals.totals_of}
 use Rattle.pas_records.specs.{declared.record.{Record.Record, Said.Said}, Lines.lines_of, Marks.{Marked, marks_after, marks_text}, Rests.AreTrueMarks}
 use Rattle.pas_calls.proofs.Telling.{flush_only, flush_leads, emptied, logs_with, stop_leads, stop_tells, LeadsOn, on_as, on_both, lines_by, Comes, Tells}
 use Rattle.pas_calls.proofs.Telling.{piece_of, told_after, on_line, on_done, on_task, emptying, booked_as, lines_both, table_at, table_same, stop_only, on_same}
@@ -120,10 +119,7 @@ module _ (f : Profile) (valid : IsValid f) (p : Progress) (s : Stand) (ts : List
       record {
         end = t;
         leads = on_done {t = record s { idle_since = with_at s.idle_since k s.epoch; left = ts }} due (on_task due left);
-        tells = look_tells k epoch t (with_cache p.caches k (woken (p.caches k) epoch)) p.epoch refl refl
-            (λ j. table_same (λ (d : Cached). d.log) p.caches k (woken (p.caches k) epoch) refl j ∙ tells.logs j)
-            (λ j. sym (table_at (λ (d : Cached). d.idle_since) (λ (n : ℕ). n) (j == k) (woken (p.caches k) epoch) (p.caches j) s.epoch
-            (s.idle_since j) (is ∙ sym tells.epoch) (sym (tells.idle_since j)))) refl refl;
+        tells = search (arith, table_same, table_at);
       }
 
   read_comes : (epoch : ℕ) → s.left ≡ Does ReadsEpoch ∷ ts → Comes f s [] (after_reading p epoch) ts
@@ -152,18 +148,10 @@ module _ (f : Profile) (valid : IsValid f) (p : Progress) (s : Stand) (ts : List
       on_both begun (on_line (inr (refl, refl)))
 
   phase_comes : (n : ℕ) → s.left ≡ Does (MarksPhase n) ∷ ts → Comes f s (Record.Phase n ∷ []) (with_records p (Record.Phase n ∷ [])) ts
-  phase_comes n left = record {
-    end = record s { due = []; left = ts };
-    leads = wrote (MarksPhase n) (Record.Phase n) (record s { left = ts }) left (on_task due left);
-    tells = same_tells (record s { due = []; left = ts }) _ refl refl refl refl refl refl;
-  }
+  phase_comes n left = search (arith, same_tells)
 
   close_comes : s.left ≡ Does MarksClose ∷ ts → Comes f s (Record.Close ∷ []) (with_records p (Record.Close ∷ [])) ts
-  close_comes left = record {
-    end = record s { due = []; left = ts };
-    leads = wrote MarksClose Record.Close (record s { left = ts }) left (on_task due left);
-    tells = same_tells (record s { due = []; left = ts }) _ refl refl refl refl refl refl;
-  }
+  close_comes left = search (arith, same_tells)
 
   tick_comes : (asked answer : ℕ) → s.left ≡ Does (Ticks asked) ∷ ts → answer ≡ word_after p.list Word.Epoch
       → Comes f s (Record.Said 0 (Said.Tick (max answer asked)) ∷ []) (after_tick p asked answer) ts
@@ -299,8 +287,7 @@ page_ends page d live free stamp m = search (arith, number_first, kind_first, ma
 
 cut_page : (es : List Event) (page : ℕ) (o : Option Directory) (m : Marked) (rest : List ℕ)
     → lines_in (machine_page es page o m ++ rest) ≡ page_line es page o m ++ lines_in rest
-cut_page es page None m rest = refl
-cut_page es page (Some d) m rest = cut_line (machine_page es page (Some d) m) rest (page_ends page d (live_on es page) (uncovered_on es page) (epoch_in es page) m)
+cut_page es page o m rest = search (arith, cut_line, page_ends)
 
 cut_pages : (es : List Event) (marks : ℕ → Marked) (n : ℕ) (rest : List ℕ)
     → lines_in (machine_pages es marks n ++ rest) ≡ page_lines es marks n ++ lines_in rest
@@ -317,8 +304,7 @@ cut_report f es marks =
     let total : List ℕ = total_line f es in
     let last : lines_in total ≡ total ∷ []
     = ap lines_in (sym (append-nil total)) ∙ cut_line total [] (totals_end (totals_of f es)) in
-    cut_line (codes "report\n") (machine_pages es marks f.pages ++ total) refl
-    ∙ ap (λ ls. head_line ∷ ls) (cut_pages es marks f.pages total ∙ ap (λ ls. page_lines es marks f.pages ++ ls) last)
+    simp (cut_line, cut_pages, last)
 
 -- ---- each is allowed
 module _ (f : Profile) (l : Whole) (true_marks : AreTrueMarks f l) (r : Stand) where
@@ -462,19 +448,16 @@ module _ (f : Profile) (n : ℕ) where
 
   -- ---- what is begun
   named_same : (s : Stand) (k name room : ℕ) (o : Option (Option Block)) → freeing_named other s k name room o ≡ freeing_named f s k name room o
-  named_same s k name room None = refl
-  named_same s k name room any = refl
+  named_same s k name room o = search arith
 
   what_same : (s : Stand) (k : ℕ) (what : What) → begun_what other s k what ≡ begun_what f s k what
   what_same s k what = search (arith, named_same)
 
   act_same : (s : Stand) (act : Act) → begun_act other s act ≡ begun_act f s act
-  act_same s (Operates op) = what_same s op.actor op.what
-  act_same s act = refl
+  act_same s act = search (arith, what_same)
 
   task_same : (s : Stand) (t : Task) → begun other s t ≡ begun f s t
-  task_same s (Does act) = act_same s act
-  task_same s Reports = refl
+  task_same s t = search (arith, act_same)
 
   begun_same : (ts : List Task) (s : Stand) → begun_from other s ts ≡ begun_from f s ts
   begun_same [] s = refl
@@ -483,8 +466,7 @@ module _ (f : Profile) (n : ℕ) where
       (λ i. settled_with (e i).due (e i) (begun_from other (e i) ts)) ∙ ap (settled_with (after_task f s t ts).due (after_task f s t ts)) (begun_same ts (after_task f s t ts))
 
   with_same : (s : Stand) (due : List Due) → ready_with other s due ≡ ready_with f s due
-  with_same s [] = begun_same s.left (with_due s [])
-  with_same s (d ∷ ds) = refl
+  with_same s due = search (arith, begun_same)
 
   ready_same : (s : Stand) → ready other s ≡ ready f s
   ready_same s = with_same s (past_outcomes s.due)
@@ -495,8 +477,7 @@ module _ (f : Profile) (n : ℕ) where
 
   -- What is admitted by one profile is by the other, which says the same.
   admits : (es : List Event) (e : Event) → Admits other es e → Admits f es e
-  admits es (Event.Give k block) h = record { aligned = h.aligned; whole = h.whole; some = h.some; bears = λ x inside. bears es block.heap _ (h.bears x inside); clear = h.clear; turn = h.turn }
-  admits es e h = h
+  admits es e h = search (arith, bears)
 
   is_for : (s : Stand) (r : Request) (block : Block) → IsFor other s r block → IsFor f s r block
   is_for s r block h = record { heap = h.heap; room = h.room; aligned = h.aligned; deeds = h.deeds }
@@ -522,15 +503,7 @@ module _ (f : Profile) (n : ℕ) where
       search arith
 
   due_of : (s : Stand) (due : List Due) (line : List ℕ) (next : Stand) → TakesDue other s due line next → TakesDue f s due line next
-  due_of s (Frees k entry ∷ more) line next h = search (arith, admits)
-  due_of s (Serves k r old ∷ more) line next h = request s k r old more line next h
-  due_of s (Tries keeper k r backed ∷ more) line next (inl h) =
-      let is = serves s keeper r (Record.Event h.event) (h.serves, h.admitted) in
-      let next_is = h.next_is ∙ kept_same (block_in h.event) (with_one s h.event) keeper k r (backed || is_back h.event) more in
-      inl (record { event = h.event; serves = is.0; admitted = is.1; line_is = h.line_is; next_is = next_is })
-  due_of s (Tries keeper k r backed ∷ more) line next (inr h) = inr (h.0, request (serving s k r more) k r None more line next h.1)
-  due_of s (Examines page ∷ more) line next h = outcome_of s page more line next h
-  due_of s any line next h = h
+  due_of s due line next h = search (arith, admits, request, serves, kept_same, outcome_of)
 
   -- each line,
   takes : (s : Stand) (line : List ℕ) (next : Stand) → Takes other s line next → Takes f s line next

@@ -6,12 +6,11 @@ use Rattle.std.{proofs.lemmas.{Bool.{and_from, and_parts, cases_eq, false_from_n
 use Rattle.pas_profile.specs.{Directories.IsKind, Profiles.IsPage, Blocks.address_of, Entries.entry_of, declared.name.{Block.Block, Name.Name}}
 use Rattle.pas_profile.specs.declared.{profile.Profile.Profile, entry.Entry.Entry}
 use Rattle.pas_machine.specs.{Machines.profile_of, declared.machine.Machine.Machine}
-use Rattle.pas_trace.specs.{Named.standing_for, EveryPlan.all_ops, Plans.{ops_of, IsPlanOf, phases_of}, Acts.{Act, MakesPass, StopsIdle, Ticks, Wakes}}
-use Rattle.pas_trace.specs.Acts.{numbers_from, MarksPhase, Settles, act_kept, acts_from, acts_of, acts_of_chore, acts_of_op, acts_of_ops, acts_of_work}
-use Rattle.pas_trace.specs.{Acts.{close_acts, is_active, phase_acts, threads_where, keepers_of}, declared.{item.Request.Request, plan.{Chore.Chore, Op.Op}}}
-use Rattle.pas_trace.specs.{declared.plan.{Phase.Phase, Task.Task as AskedTask, What.TheVariants.Alloc, Work.Work, Plan.Plan}, Asked.{work_of, of_task}}
-use Rattle.pas_trace.{specs.Asked.{keeper_of, keeper_in}, proofs.{ThreadsInOrder.{number_last, number_next, threads_alike}, EveryPlan.every_plan}}
-use Rattle.pas_trace.proofs.Keepers.{keepers_few}
+use Rattle.pas_trace.specs.{EveryPlan.all_ops, Plans.{ops_of, IsPlanOf, phases_of}, Acts.{Act, MakesPass, StopsIdle, Ticks, Wakes, numbers_from, MarksPhase}}
+use Rattle.pas_trace.specs.Acts.{Settles, act_kept, acts_from, acts_of, acts_of_chore, acts_of_op, acts_of_ops, acts_of_work, close_acts, is_active, phase_acts}
+use Rattle.pas_trace.specs.{Acts.{threads_where, keepers_of}, declared.{item.Request.Request, plan.{Chore.Chore, Op.Op, Phase.Phase, Task.Task as AskedTask}}}
+use Rattle.pas_trace.specs.{declared.plan.{What.TheVariants.Alloc, Work.Work, Plan.Plan}, Asked.{work_of, of_task, keeper_of, keeper_in}}
+use Rattle.pas_trace.proofs.{ThreadsInOrder.{number_last, number_next, threads_alike}, EveryPlan.every_plan, Keepers.keepers_few}
 use Rattle.pas_check.specs.Begins.{after_task, begun_act, entries_due, flushing, freeing_at, freeing_named, is_full, is_page, logging, remaking, remaking_named}
 use Rattle.pas_check.specs.{Begins.{request_for, says, stopping, suits, tells}, Bounds.{FitsRequest, HaveHeaps, IsKept}, Meanings.{heap_in, meaning_at}}
 use Rattle.pas_check.specs.{Meanings.meaning_of, Accepted.{IsVerdict, IsWhole}, Shown.IsKnown, Takes.Takes, Tables.{logged, logs_held, meant, names_held}}
@@ -27,9 +26,6 @@ use Rattle.pas_bits.specs.{Masks.is_set, declared.mask.Mask4.Mask4}
 use Rattle.pas_records.specs.declared.record.{Record.Record, Said.Said}
 
 -- ---- Acts, done.
-later : {f : Profile} {j : Judge} {s : Stand} {from : Cursor} (to : Cursor) → from.lines ≤ to.lines → Stands f j s from → Stands f j s to
-later {f} {j} {s} {from} to more stands = search (arith, kept_same)
-
 -- the same tables stand for another list of what is due and left
 other_plan : {f : Profile} {j : Judge} {s : Stand} {at : Cursor} (due : List Due) (left : List Task) → Stands f j s at
     → Stands f j (record s { due = due; left = left }) at
@@ -51,10 +47,7 @@ module _ {f : Profile} {text : List ℕ} {new : Judge} {to : Cursor} {due : List
   -- One line comes to where the judge stands already for what stands after it.
   pub comes_led : {is : Bool} {s : Stand} {from : Cursor} (t : Stand) → Stands f new t from → t.due ≡ due → t.left ≡ left → IsLed f text s from t to is
       → Comes f text s from new to due left is
-  comes_led {is = true} {from = from} t stands due_is left_is led =
-      let count : from.lines ≤ to.lines = omega (arith, led.count) in
-      record { come = record { stand = t; led = led; stands = later to count stands; due = due_is; left = left_is } }
-  comes_led {is = false} t stands due_is left_is led = record { come = λ enough. led }
+  comes_led t stands due_is left_is led = search arith
 
 -- What comes to where one line is due goes on with that line.
 comes_then : {f : Profile} {text : List ℕ} {s : Stand} {from at to : Cursor} {new : Judge} {d : Due} {due : List Due} {left : List Task} {is : Bool}
@@ -148,12 +141,7 @@ module _ (f : Profile) (text : List ℕ) (old : Judge) (from to : Cursor) (k : �
   -- Where the lines of a log's entries fail, the log isn't emptied.
   pub log_amiss : (machine : Machine) → EntriesTaken old.machine machine text from to k (logged old.logs k) [] old.epoch false → (new : Judge)
       → LogEmptied f text old from new to k log false
-  log_amiss machine entries new = record {
-    answered = λ s more ts stands. record {
-      come = λ enough. subst (λ g. Fails g text (begun s more ts stands) from to.lines) stands.profile
-          (entries.taken (begun s more ts stands) more stands.events stands.epoch (begun_kept s more ts stands) (begun_due s more ts stands));
-    };
-  }
+  log_amiss machine entries new = search (arith, begun_kept, begun_due)
 
   -- Where the lines of a log's entries were taken, the log is emptied, and no other one changes.
   pub log_emptied : (machine : Machine) (logs : Logs) → profile_of machine ≡ profile_of old.machine → logged logs k ≡ log
@@ -407,8 +395,6 @@ said_named {f} {old = old} {from = from} k name found said within says_it names 
   where
     there : (s : Stand) → Stands f old s from → Stands f (record old { names = names }) (with_name s name found) from
     there s stands =
-        let named_so : (n : ℕ) → standing_for (with_name s name found).names n ≡ meant names n
-        = λ n. (λ i. if name == n then Some found else stands.names n i) ∙ sym (sets n) in
         search (arith, kept_same)
 
 suits_it : (block : Block) (size align : ℕ) → IsSuited block size align → suits block size align ≡ true
@@ -597,8 +583,7 @@ first_phase threads keepers phases d lt = ap (λ (ps : List Phase). acts_of thre
 pub planned_as : (old new : Judge) (ops : List Op) → IsSizedAs old new → ArePlanned (profile_of old.machine) (names_held old.names) ops
     → ArePlanned (profile_of new.machine) (names_held new.names) ops
 planned_as old new ops sized planned =
-    subst (λ (n : ℕ). ArePlanned (profile_of new.machine) n ops) (sym sized.names)
-    (subst (λ (f : Profile). ArePlanned f (names_held old.names) ops) (sym sized.profile) planned)
+    rw (sized.names, sized.profile) planned
 
 -- A planned operation is planned for a judge of the same sizes.
 pub one_planned_as : (old new : Judge) (op : Op) → IsSizedAs old new → IsPlanned (profile_of old.machine) (names_held old.names) op

@@ -183,8 +183,7 @@ line_some (b ∷ bs) is = omega arith
 -- where the text goes on with it, it is the next line
 pub cut_here : (text wanted : List ℕ) (b : ℕ) → drop b text ≡ wanted ++ drop (length wanted) (drop b text) → is_line wanted ≡ true
     → lines_in (drop b text) ≡ wanted ∷ lines_in (drop (b + length wanted) text)
-cut_here text wanted b starts is = ap lines_in starts ∙ cut_line wanted (drop (length wanted) (drop b text)) is
-    ∙ ap (λ (rest : List ℕ). wanted ∷ lines_in rest) (drop-drop (length wanted) b text)
+cut_here text wanted b starts is = cc (cut_line wanted (drop (length wanted) (drop b text)) is, drop-drop (length wanted) b text)
 
 -- the text goes on with its next line
 pub goes_on_with : (text line : List ℕ) (rest : List (List ℕ)) → lines_in text ≡ line ∷ rest → text ≡ line ++ concat rest

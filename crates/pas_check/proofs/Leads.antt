@@ -152,8 +152,7 @@ module _ (f : Profile) (text : List ℕ) (s t : Stand) (at : Cursor) where
   alike_go (line ∷ more) same (suc n) = (λ g. (g.0, (g.1.0, (same g.1.0).0 g.1.1, g.1.2)), λ g. (g.0, (g.1.0, (same g.1.0).1 g.1.1, g.1.2)))
 
   alike_whole : (rest : List (List ℕ)) → IsSameAt rest → (IsDone f s ↔ IsDone f t) → IsWhole f s rest ↔ IsWhole f t rest
-  alike_whole [] same done = (λ g. (t, refl, done.0 (subst (IsDone f) g.1 g.2)), λ g. (s, refl, done.1 (subst (IsDone f) g.1 g.2)))
-  alike_whole (line ∷ more) same done = (λ g. (g.0, (g.1.0, (same g.1.0).0 g.1.1, g.1.2), g.2), λ g. (g.0, (g.1.0, (same g.1.0).1 g.1.1, g.1.2), g.2))
+  alike_whole rest same done = search arith
 
   -- Where the same lines may come before and after it, a change without a line leads on.
   pub leads_idly : IsWithin text at → IsSameAt (lines_from text at) → (IsDone f s ↔ IsDone f t) → Leads f text s at t at
@@ -196,32 +195,11 @@ module _ (f : Profile) (text : List ℕ) (s : Stand) (old : Cursor) where
   -- it can't be taken
   pub fails_line : (line : List ℕ) (rest : List (List ℕ)) → lines_from text old ≡ line ∷ rest → ((next : Stand) → Takes f s line next → ⊥)
       → Fails f text s old (old.lines + 1)
-  fails_line line rest has never = record {
-    further = 1;
-    number_is = refl;
-    stopped = record {
-      before = 0;
-      number = omega arith;
-      go = (s, refl);
-      stops = inl (
-        (omega (arith, ap length has)),
-        λ g. let h = subst (MayGo f s) (λ i. take 1 (has i)) g in never h.1.0 h.1.1,
-      );
-    };
-  }
+  fails_line line rest has never = search arith
 
   -- there is none
   fails_early : lines_from text old ≡ [] → (IsDone f s → ⊥) → Fails f text s old (old.lines + 1)
-  fails_early none undone = record {
-    further = 1;
-    number_is = refl;
-    stopped = record {
-      before = 0;
-      number = omega arith;
-      go = (s, refl);
-      stops = inr ((omega (arith, ap length none)), λ g. let h = subst (IsWhole f s) none g in undone (subst (IsDone f) h.1 h.2));
-    };
-  }
+  fails_early none undone = search arith
 
 -- ---- where something is due that isn't the outcomes of a pass
 ready_is : (f : Profile) (s : Stand) (d : Due) (more : List Due) → s.due ≡ d ∷ more → past_outcomes (d ∷ more) ≡ d ∷ more → ready f s ≡ s

@@ -11,12 +11,12 @@ use Rattle.pas_machine.specs.{Laws.IsCounted, Places.{block_of, IsEach}, Machine
 use Rattle.pas_machine.specs.{State.{ends_in, deed_in}, Machines.{IsUncounted, profile_of, StandsFor, Steps}, declared.fault.StepFault.StepFault}
 use Rattle.pas_machine.{specs.declared.machine.Machine.Machine, proofs.{LiveBlocks.all_counted, Verdicts.never_of}}
 use Rattle.pas_check.specs.{Calls.{Differs, outcome_in, IsStepped, EntryTaken, LiesOn, RefusesBy, outcome_in_event, outcome_in_said}, States.{Stand, Due}}
-use Rattle.pas_check.specs.{States.{Frees, Serves, Tries, Never, Examines, Shows, with_due, with_one, Writes, Heads, Totals}, Takes.{MayRefuse, IsEventOf}}
-use Rattle.pas_check.specs.Takes.{IsServing, IsFor, IsRefusal, directory_of, serving, MayCome, record_of, after_outcome, MayServe, after_record, TakesRequest}
-use Rattle.pas_check.specs.Takes.{TakesTry, IsOutcome, TakesOutcome, TakesDue, Takes, TakesFirst, TakesKeeping, after_keeping}
-use Rattle.pas_check.specs.{declared.examining.Examined.Examined, Begins.{past_outcomes, ready}, Readings.{byte_at, of_u8, past_digits}, Ranges.FitsWhy}
-use Rattle.pas_check.specs.{Ranges.{FitsEvent, FitsSaid, Fits, FitsEntry, FitsBlock}, Bounds.{FitsRequest, FitsFirst, FitsTry, IsSmall, FitsNext, IsOfThread}}
-use Rattle.pas_check.{specs.Bounds.IsFew, proofs.{Readings.{one_line, past_number, u8_back}, Leads.gives_few}}
+use Rattle.pas_check.specs.{States.{Frees, Serves, Tries, Never, Examines, Shows, with_due, Writes, Heads, Totals}, Takes.{MayRefuse, IsEventOf, IsServing}}
+use Rattle.pas_check.specs.Takes.{IsFor, IsRefusal, directory_of, serving, MayCome, record_of, after_outcome, MayServe, TakesRequest, TakesTry, IsOutcome}
+use Rattle.pas_check.specs.{Takes.{TakesOutcome, TakesDue, Takes, TakesFirst, TakesKeeping, after_keeping}, declared.examining.Examined.Examined}
+use Rattle.pas_check.specs.{Begins.{past_outcomes, ready}, Readings.{byte_at, of_u8, past_digits}, Ranges.{FitsWhy, FitsEvent, FitsSaid, Fits, FitsEntry}}
+use Rattle.pas_check.{specs.{Ranges.FitsBlock, Bounds.{FitsRequest, FitsFirst, FitsTry, IsSmall, FitsNext, IsOfThread, IsFew}}, proofs.Readings.one_line}
+use Rattle.pas_check.proofs.{Readings.{past_number, u8_back}, Leads.gives_few}
 use Rattle.pas_bits.{proofs.Runs.first_of_run, specs.Runs.in_run}
 use Rattle.pas_steps.specs.Events.{actor_of}
 use Rattle.pas_trace.{specs.declared.item.Request.Request, proofs.PassedChecks.if_some}
@@ -65,8 +65,7 @@ nothing_there o e = search (arith, none-some)
 module _ (f : Profile) (es : List Event) (run : Run f es) (entry : Entry) where
   -- Where no block lives, as many blocks ended as were given.
   pub gone : live_in es (address_of entry.name) ≡ None → gives_in es (address_of entry.name) ≡ ends_in es (address_of entry.name)
-  gone none = subst (λ (o : Option Live). IsCounted o (gives_in es (address_of entry.name)) (ends_in es (address_of entry.name))) none
-      (all_counted f es run (address_of entry.name))
+  gone none = rw none at (all_counted f es run (address_of entry.name))
 
   -- Where no block lives, a name whose turn was given has ended.
   pub gone_ended : live_in es (address_of entry.name) ≡ None → entry.name.turn < gives_in es (address_of entry.name) → IsReason es entry.name Ended
@@ -171,9 +170,7 @@ module _ (f : Profile) (s : Stand) (small : IsSmall f s) (k : ℕ) (r : Request)
   -- A line that answers a request leads to one state.
   one_request : (old : Option Name) (more : List Due) (line : List ℕ) (a b : Stand) → TakesRequest f s k r old more line a
       → TakesRequest f s k r old more line b → a ≡ b
-  one_request old more line a b x y = x.next_is
-      ∙ ap (after_record s k r old more) (same_record line x.item y.item (serves_fits x.item x.may) (serves_fits y.item y.may) x.line_is y.line_is)
-      ∙ sym y.next_is
+  one_request old more line a b x y = cc (same_record line x.item y.item (serves_fits x.item x.may) (serves_fits y.item y.may) x.line_is y.line_is)
 
 -- ---- those of a guarded request
 -- what is due has no part in how small a state is
@@ -234,8 +231,7 @@ one_outcome f s small last more line a b x y =
 pub one_next : (f : Profile) (s : Stand) → IsSmall f s → (due : List Due) → FitsFirst f due → (line : List ℕ) (a b : Stand) → TakesDue f s due line a
     → TakesDue f s due line b → a ≡ b
 one_next f s small [] fits line a b x y = absurd x
-one_next f s small (Frees k entry ∷ more) fits line a b x y = x.next_is
-    ∙ ap (λ e. with_due (with_one s e) more) (one_event s k entry x.event y.event x.of_entry y.of_entry) ∙ sym y.next_is
+one_next f s small (Frees k entry ∷ more) fits line a b x y = cc (one_event s k entry x.event y.event x.of_entry y.of_entry)
 one_next f s small (Serves k r old ∷ more) fits line a b x y = one_request f s small k r fits old more line a b x y
 one_next f s small (Tries keeper k r backed ∷ more) fits line a b x y = one_try f s small keeper k r fits backed more line a b x y
 one_next f s small (Never ∷ more) fits line a b x y = absurd x

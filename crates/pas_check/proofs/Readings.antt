@@ -68,10 +68,7 @@ joined v q a r p n rest all parts low high = search (arith, mul-add, mul_left_co
 
 digits_join : (v n p : ℕ) → (16 * v + n / p % 16) * p + n % p ≡ 16 * (v * p) + n % (p * 16)
 digits_join v n p =
-    let whole : p * 16 * (n / (p * 16)) ≡ 16 * (p * (n / p / 16)) =
-    ap (λ x. p * 16 * x) (sym (div-div-eq-div-mul n p 16)) ∙ mul_assoc p 16 (n / p / 16) ∙ mul_left_comm p 16 (n / p / 16) in
-    let high : p * 16 * (n / (p * 16)) + n % (p * 16) ≡ n = div-add-mod n (p * 16) in
-    joined v (n / p) (n / p / 16) (n / p % 16) p n (n % p) (n % (p * 16)) (omega arith) (sym (div-add-mod n p)) (omega (arith, whole, high))
+    search (arith, div-div-eq-div-mul, mul_assoc, mul_left_comm, div-add-mod, joined)
 
 hex_value_is : (k v n : ℕ) (rest : List ℕ) → hex_after k v (hex_digits k n ++ rest) ≡ v * 16 ^ k + n % 16 ^ k
 hex_value_is zero v n rest = omega arith
@@ -170,13 +167,7 @@ give_is : (k : ℕ) (block : Block) → FitsBlock block
     → give_at k (codes " give" ++ (name_text block.name ++ (codes " room " ++ (decimal block.room ++ (codes " heap " ++ (decimal block.heap ++ codes "\n"))))))
     ≡ Event.Give k block
 give_is k block fits =
-    let last : List ℕ = codes "heap " ++ (decimal block.heap ++ codes "\n") in
-    let rest : List ℕ = codes "room " ++ (decimal block.room ++ 32 ∷ last) in
-    let past : past_name (name_text block.name ++ 32 ∷ rest) ≡ 32 ∷ rest = past_is block.name 32 rest fits.name refl in
-    let room : past_digits (decimal block.room ++ 32 ∷ last) ≡ 32 ∷ last = past_number block.room 32 last (omega (arith, fits.room)) refl in
-    (λ i. Event.Give k record { name = name_is block.name 32 rest fits.name refl i; room = of_u32 (drop 6 (past i)); heap = of_u8 (drop 6 (past_digits (drop 6 (past i)))) })
-    ∙ (λ i. Event.Give k record { name = block.name; room = u32_back block.room 32 last fits.room refl i; heap = of_u8 (drop 6 (room i)) })
-    ∙ ap (λ h. Event.Give k record { name = block.name; room = block.room; heap = h }) (u8_back block.heap 10 [] fits.heap refl)
+    search (arith, past_is, past_number, name_is, u32_back, u8_back)
 
 freed_is : (k : ℕ) (name : Name) (epoch : ℕ) → FitsName name → epoch < 2 ^ 64
     → freed_at k (codes " freed" ++ (name_text name ++ (codes " epoch " ++ (decimal epoch ++ codes "\n")))) ≡ Event.End k name epoch

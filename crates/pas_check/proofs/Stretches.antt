@@ -5,7 +5,7 @@ use Rattle.std.specs.Global.{Vec}
 use Rattle.pas_profile.specs.{Guards.raised_by, Directories.IsKind, Profiles.IsValid, Blocks.address_of, declared.event.{Event.Event, Outcome.Outcome}}
 use Rattle.pas_profile.specs.declared.{name.{Block.Block, Name.Name}, profile.Profile.Profile, entry.Entry.Entry, guard.Raised.Raised}
 use Rattle.pas_machine.specs.{Machines.{profile_of, StandsFor}, Machine.{IsPlace, Run}, State.ends_in, declared.machine.Machine.Machine}
-use Rattle.pas_check.specs.Begins.{entries_due, replacing, ready, has_sides, raising, goes_down, guard_of, lowered_due, page_above, page_below, sweeping}
+use Rattle.pas_check.specs.Begins.{entries_due, ready, has_sides, raising, goes_down, guard_of, lowered_due, page_above, page_below, sweeping}
 use Rattle.pas_check.specs.Calls.{EntriesTaken, EntryTaken, IsAsked, IsWanted, RequestGoes, RequestTaken, after_request, IsExamining, OutcomeTaken, OutcomesGo}
 use Rattle.pas_check.specs.Calls.{OutcomesTaken, after_pass, IsTrying, TrialGoes, TrialTaken, LinesSwept, staying, EventTaken, IsRead, RefusalSeen, RefusesBy}
 use Rattle.pas_check.specs.{Leading.{IsWithin, lines_from, Fails, Leads, IsLineLed}, Takes.{IsEventOf, TakesEntry, TakesRequest, directory_of, Takes}}
@@ -55,8 +55,7 @@ module _ {old : Machine} {text : List ℕ} {from : Cursor} {k : ℕ} {log : List
             let takes : TakesEntry f t k entry rest line next
             = record { event = e; of_entry = is.0; admitted = is.1; line_is = taken.1; next_is = refl } in record {
               events = e ∷ b.events;
-              led = then_leads to b.led (Frees k entry) rest refl refl count has within takes (λ other x. x.next_is
-                  ∙ ap (λ g. with_due (with_one t g) rest) (one_event t k entry x.event e x.of_entry is.0));
+              led = then_leads to b.led (Frees k entry) rest refl refl count has within takes (λ other x. cc (one_event t k entry x.event e x.of_entry is.0));
               stands = is.2;
               kept = kept_more next t at to e refl refl count (ends_by t k entry e is.0) b.kept;
             };
@@ -129,8 +128,7 @@ module _ {old : Machine} {text : List ℕ} {from : Cursor} {k : ℕ} {w : Wanted
               let u = t s r replaced more asked in
               let got = served s r replaced more asked in record {
                 events = e ∷ u.events;
-                led = subst (λ o. Leads (profile_of old) text s from (given_next o (with_one u e) k r replaced more) to) none
-                    (answers s r replaced more asked within (Record.Event e) taken.0 got.0);
+                led = rw none at (answers s r replaced more asked within (Record.Event e) taken.0 got.0);
                 stands = got.1;
                 kept = kept_more (with_one u e) u at to e refl refl count (served_keeps (profile_of old) u k r u.epoch e asked.fits.kind got.0.0)
                     (before.goes s r replaced more asked).kept;
@@ -143,8 +141,7 @@ module _ {old : Machine} {text : List ℕ} {from : Cursor} {k : ℕ} {w : Wanted
             let u = t s r replaced more asked in
             let got = served s r replaced more asked in
             let there : given_next (block_in e) (with_one u e) k r replaced more ≡ after_request (record s { events = e ∷ u.events }) k r replaced (Some block) more
-            = ap (λ o. given_next o (with_one u e) k r replaced more) gives
-            ∙ ap (λ ds. replacing replaced (with_name (record s { events = e ∷ u.events; due = ds }) r.name (Some block)) k more) (sym asked.due) in (
+            = simp (gives, ← asked.due) in (
               e ∷ u.events,
               subst (λ (v : Stand). Leads (profile_of old) text s from v to) there (answers s r replaced more asked within (Record.Event e) taken.0 got.0),
               got.1,
@@ -214,12 +211,7 @@ module _ {old : Machine} {text : List ℕ} {from : Cursor} {epoch : ℕ} where
         → IsSameAt (profile_of old) text (passing s ex) (with_due (passing s ex) []) at (lines_from text at)) → OutcomesTaken old mid text from at epoch
     outcomes_end within same = record {
       taken = λ s ex.
-          let b = before.goes s ex in record {
-            events = b.events;
-            led = leads_on b.led (leads_idly (profile_of old) text (passing s ex) (with_due (passing s ex) []) at within (same s ex) (λ done. done, λ done. done));
-            stands = b.stands;
-            kept = kept_same (with_due (passing s ex) []) (passing s ex) at at refl refl (omega arith) b.kept;
-          };
+          let b = before.goes s ex in search (arith, leads_on, leads_idly, kept_same);
     }
 
     -- Where no line is left, the outcomes of a pass are those taken so far.
@@ -236,14 +228,7 @@ module _ {old : Machine} {text : List ℕ} {from : Cursor} {epoch : ℕ} where
         -- A line that is taken while a page is examined is taken with nothing else due.
         there : (s : Stand) (ex : IsExamining old s from 0 epoch) (next : Stand) → Takes (profile_of old) (passing s ex) line next
             → Takes (profile_of old) (with_due (passing s ex) []) line next
-        there s ex next (inl x) =
-            let f = profile_of old in
-            let b = before.goes s ex in
-            let of_outcome = read.only (record_of s.epoch x.page x.outcome) (outcome_fits f (passing s ex) (small_passing s ex) x.page x.outcome x.of_region x.may)
-            x.line_is in
-            absurd ((subst (λ g. OutcomeTaken g mid new last epoch found None) same none).1 (passing s ex) x.page x.outcome b.stands
-            (omega (arith, b.kept.few, few_lines here)) ex.epoch (subst (λ e. found ≡ Some (record_of e x.page x.outcome)) ex.epoch of_outcome) x.rises x.of_region x.may)
-        there s ex next (inr y) = inr y
+        there s ex next given = search (arith, outcome_fits, small_passing, few_lines)
 
         -- in each case it computes, or is given
         back : (s : Stand) (ex : IsExamining old s from 0 epoch) (next : Stand) → Takes (profile_of old) (with_due (passing s ex) []) line next
@@ -269,15 +254,7 @@ module _ {old : Machine} {text : List ℕ} {from : Cursor} {epoch : ℕ} where
             let came = got.4 u b.stands ex.epoch in
             let next : Stand = with_due (after_outcome u page o) due in
             let of_outcome = got.1 ∙ ap (λ e. Some (record_of e page o)) (sym ex.epoch) in
-            let takes : TakesOutcome f u last [] line next = record {
-              page = page;
-              rises = got.2;
-              of_region = got.3;
-              outcome = o;
-              may = came.0;
-              line_is = subst (λ x. IfSome x (λ q. line ≡ line_of q)) of_outcome read.some;
-              next_is = refl;
-            } in
+            let takes : TakesOutcome f u last [] line next = search arith in
             let follows = ex.followed in
             let small_then : IsSmall f (ready f u)
             = small_as f u (after_pass f s u.events) (follows.events u.events) (follows.epoch u.events) (small_passing s ex) in
@@ -360,9 +337,7 @@ module _ {old : Machine} {text : List ℕ} {from : Cursor} {keeper : ℕ} {w : W
           let u = trying s k r more asked in
           let v : Stand = with_name (record s { events = e ∷ u.events }) r.name (Some block) in (
             e ∷ u.events,
-            subst (λ (x : Stand). Leads f text s from x to)
-                (ap (λ o. kept_next o f (with_one u e) keeper k r (backed || is_back e) more) gives ∙ raise_due (has_sides f block) v u.due keeper r.name block more)
-                (kept_leads new e taken within s k r more asked),
+            rw (gives, raise_due (has_sides f block) v u.due keeper r.name block more) at (kept_leads new e taken within s k r more asked),
             (kept_by new e taken within s k r more asked).1,
             kept_kept new e taken within s k r more asked (record s { events = e ∷ u.events }) refl refl,
           )
@@ -389,8 +364,7 @@ module _ {old : Machine} {text : List ℕ} {from : Cursor} {keeper : ℕ} {w : W
             (next : Stand) where
           by_thread : TakesTry (profile_of old) (trying s k r more asked) keeper k r backed more line next
               → Takes (profile_of old) (serving (trying s k r more asked) k r more) line next
-          by_thread (inl x) = absurd (not_kept s k r more asked next x)
-          by_thread (inr x) = due_takes (profile_of old) (serving (trying s k r more asked) k r more) (Serves k r None) more refl refl line next x.1
+          by_thread given = search (arith, not_kept, due_takes)
 
           alike : Takes (profile_of old) (trying s k r more asked) line next ↔ Takes (profile_of old) (serving (trying s k r more asked) k r more) line next
           alike = (
@@ -405,11 +379,10 @@ module _ {old : Machine} {text : List ℕ} {from : Cursor} {keeper : ℕ} {w : W
             let b = before.goes s k r more asked in
             let u = trying s k r more asked in (
               b.events,
-              leads_on b.led (leads_idly f text u (serving u k r more) at here (subst (λ (ls : List (List ℕ)). IsSameAt f text u (serving u k r more) at ls)
-                  (sym has) (alike none_backed s k r more asked)) (
-                    λ done. absurd (undone f u (Tries keeper k r backed) more refl refl done),
-                    λ done. absurd (undone f (serving u k r more) (Serves k r None) more refl refl done),
-                  )),
+              leads_on b.led (leads_idly f text u (serving u k r more) at here (rw has (alike none_backed s k r more asked)) (
+                λ done. absurd (undone f u (Tries keeper k r backed) more refl refl done),
+                λ done. absurd (undone f (serving u k r more) (Serves k r None) more refl refl done),
+              )),
               subst (λ (m : Machine). StandsFor m b.events) (sym none.0) b.stands,
               kept_same (record s { events = b.events }) u at at refl refl (omega arith) b.kept,
             )
@@ -440,9 +413,7 @@ module _ {machine : Machine} {text : List ℕ} {from : Cursor} {guards : List Ra
         → Leads f text s from (with_due s
         (map lowered_due (cond down (guard ∷ filter (goes_down s.events keeper all) rest) (filter (goes_down s.events keeper all) rest)) ++ more)) at
     with_own down tells f s more stands due =
-        let others = filter (goes_down s.events keeper all) rest in
-        subst (λ b. Leads f text s from (with_due s (map lowered_due (cond b (guard ∷ others) others) ++ more)) at)
-        (sym (tells s.events stands)) (before.swept f s more stands due)
+        search arith
 
     -- A guard that stays up has no line.
     pub sweep_stays : ((es : List Event) → StandsFor machine es → false ≡ goes_down es keeper all guard)

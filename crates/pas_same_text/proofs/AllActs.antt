@@ -169,8 +169,7 @@ module _ (f : Profile) (p : Progress) (w : World) (valid : IsValid f) (legal : L
       )
 
   offered_told : (page : ℕ) (o : Option Directory) → deed_in (visible p.list) page ≡ o → offered_by w o page ≡ offered_after p.list page o
-  offered_told page None at = refl
-  offered_told page (Some d) at = same.pages.offered page d (directory_is_of f p.list legal page d at)
+  offered_told page o at = search (arith, directory_is_of)
 
   offered_same : (page : ℕ) → offered_by w (deed_in w.events page) page ≡ (marks_after p.list page).offered
   offered_same page = search (arith, deed_is, offered_told, read_is)
@@ -202,14 +201,7 @@ module _ (f : Profile) (p : Progress) (w : World) (valid : IsValid f) (legal : L
 carried_on : (threads : ℕ) (f : Profile) (act : Act) (p p' : Progress) (w : World) (indexes : Indexes) (known : IsKnown threads f act p p' w indexes)
     → threads ≤ length w.caches → IsKept threads f act p p' w indexes known
     → IsCarried threads f p' (acts_on f act w) (indexes_after f act p p' known.taken.advances indexes)
-carried_on threads f act p p' w indexes known many kept = record {
-  same = kept.same;
-  many = omega (arith, act_many f act w, many);
-  seated = seated_next threads f act p p' known.taken.valid known.planned.0 known.taken.before known.seated known.taken.advances known.taken.after.legal;
-  usable = act_usable f act p p' known.taken.valid known.taken.before known.taken.after known.taken.advances known.usable;
-  stamped = stamped_kept f act p p' known.taken.valid known.taken.before known.taken.after known.taken.advances known.stamped;
-  indexes_are = kept.indexes_are;
-}
+carried_on threads f act p p' w indexes known many kept = search (arith, act_many, seated_next, act_usable, stamped_kept)
 
 -- ---- several
 first_rest : (threads : ℕ) (f : Profile) (acts : List Act) (p p' : Progress) (is : Reaches f acts p p') → AllAtRest threads f acts p p' is

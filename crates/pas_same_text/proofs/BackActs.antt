@@ -1,6 +1,6 @@
 -- THE ACTS THAT GIVE BACK: flushes, stops, stops of idle threads, the close, and frees into any log.
 use Rattle.std.proofs.Common.{◌≡◌, ℕ, ◌+◌, ◌≤◌, nat_le, Bool, true, false, if◌then◌else◌, List, [], ◌∷◌, ◌++◌, length, Option, None, Some, inl, inr, refl, ap}
-use Rattle.std.proofs.Common.{sym, ◌∙◌, subst, append_assoc, arith, append-nil, eq-eqb, ◌==◌}
+use Rattle.std.proofs.Common.{sym, ◌∙◌, subst, append_assoc, arith, append-nil, eq-eqb}
 use Rattle.pas_trace.specs.declared.plan.What.TheVariants.{Flush, Stop, FreeSized, RawSized}
 use Rattle.pas_answers.specs.Answers.{suits, after_stop}
 use Rattle.pas_same_text.{specs.{State.names_it, Passes.stops_idle}, proofs.CacheLists.{same_own, same_with, same_again, same_many, flushes_keep}}
@@ -105,13 +105,7 @@ module _ (f : Profile) (k : ℕ) (entry : Entry) (p : Progress) (w : World) (c' 
     flushed_first : IsSame f (with_records q (records_of (events_by k (part k p.list) steps))) (flushes f k w)
     flushed_first = flush_same f k p w steps emptied valid thread listed before same usable both.0 refl (record {
       legal = after.legal;
-      rest = record {
-        working = λ j is. rest_at j (j == k) (p.books j) (part j q.list) (after.rest.working j is);
-        none = after.rest.none;
-        beside = after.rest.beside;
-        bare = after.rest.bare;
-        scavenger = after.rest.scavenger;
-      };
+      rest = search (arith, rest_at);
     })
 
     abbrev v : World

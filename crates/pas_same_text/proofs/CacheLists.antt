@@ -9,12 +9,11 @@ use Rattle.pas_same_text.proofs.Common.{or_cases, or_left, false_from_ne_true, o
 use Rattle.pas_same_text.proofs.Common.{in_run, Slots, IsWithoutSlot, Cached, local_for, others_than, IsLocal, any_covers, covers, Local, Cache, cache_in}
 use Rattle.pas_same_text.proofs.Common.{is_for, others, is_cached, IsSameLocal, AreSameLocals, has_number, IsRising, IsSameCache, AreSameCaches, Profile}
 use Rattle.pas_same_text.proofs.Common.{IsThread, Caches, with_cache as with_cached, EndedRun, run_of, to_run, class_grains, IsClass, same_truth, View}
-use Rattle.pas_same_text.proofs.Common.{start_of, start_at, start_below, Directory, Event, Block, Route, backed_in, sized_entry, entry_of, Entry, Record, Said}
-use Rattle.pas_same_text.proofs.Common.{World, each, shows, says, cache_of, locals_of, log_of, set_cache, set_log, is_unowned, minds, indexes_run, IsTaken}
-use Rattle.pas_same_text.proofs.Common.{HandsOnOwn, some_of, deeds, backs, readies, large_of, is_run, deeds_run, serves_pages, gives_up, gives_up_first}
-use Rattle.pas_same_text.proofs.Common.{gives_first, fetches, makes_place, serves_class_by, ends, flushes, stops, frees, frees_what, route_in, room_in}
-use Rattle.pas_same_text.proofs.Common.{Progress, standing_for, Act, numbers_from, What, lowers, are_bare, raises, raises_from, serves, acts_on, Indexes}
-use Rattle.pas_same_text.proofs.Common.{no_ranges, indexes_after, runs, Raised}
+use Rattle.pas_same_text.proofs.Common.{start_of, start_at, start_below, Directory, Event, Block, Route, backed_in, sized_entry, Entry, Record, Said, World}
+use Rattle.pas_same_text.proofs.Common.{each, shows, says, cache_of, locals_of, log_of, set_cache, set_log, is_unowned, minds, indexes_run, IsTaken, HandsOnOwn}
+use Rattle.pas_same_text.proofs.Common.{some_of, deeds, backs, readies, large_of, is_run, deeds_run, serves_pages, gives_up, gives_up_first, gives_first}
+use Rattle.pas_same_text.proofs.Common.{fetches, makes_place, serves_class_by, ends, flushes, stops, frees, frees_what, Progress, Act, numbers_from, What}
+use Rattle.pas_same_text.proofs.Common.{lowers, are_bare, raises, raises_from, serves, acts_on, Indexes, no_ranges, indexes_after, runs, Raised}
 use Rattle.pas_segregated.specs.Masks.{AreStarts}
 use Rattle.pas_large.specs.{declared.span.Span.Span, Doors.cut_in}
 use Rattle.pas_answers.specs.Indexes.{request_by, after_request, after_operation, with_noted}
@@ -120,10 +119,7 @@ same_own caches k c = ap (λ (b : Bool). if b then c else caches k) (eq-eqb k k 
 -- The text's caches are the replay's again after one thread's cache changed to the same on both sides.
 pub same_with : (f : Profile) (caches : Caches) (own : List Cache) (k : ℕ) (c : Cached) (new : Cache) → IsThread f k → k ≤ length own
     → AreSameCaches f caches own → IsSameCache c new → AreSameCaches f (with_cached caches k c) (with_cache own k new)
-same_with f caches own k c new of listed same new_same = record {
-  few = omega (arith, many_with own k new, same.few);
-  each = λ j is. search (arith, same_own, own_with, eqb-true, eqb-false, other_with, ne_eqb);
-}
+same_with f caches own k c new of listed same new_same = search (arith, many_with, same_own, own_with, eqb-true, eqb-false, other_with, ne_eqb)
 
 -- A cache that became what it was is as it was.
 pub kept_at : (caches : Caches) (j k : ℕ) (t : Bool) → (j == k) ≡ t → caches j ≡ (if t then caches k else caches j)
@@ -158,9 +154,7 @@ room_for noted (Some run) true e = let lt : length noted < 64 = grind (arith, na
     one zero some = absurd (omega (arith, some))
     one (suc n) some = ap (λ (xs : List EndedRun). noted ++ run ∷ xs) (sym (take_none n))
 room_for noted o false e =
-    let le : 64 ≤ length noted = grind (arith, nat_tests, e) in
-    let none : 64 - length noted ≡ 0 = omega (arith, le) in
-    sym (ap (λ (n : ℕ). noted ++ take n (option_to_list o)) none ∙ append-nil noted)
+    search (arith, nat_tests, append-nil)
 
 -- ==== Which grains the caches have, in the text and in a replay.
 -- ---- one local allocator
@@ -260,8 +254,7 @@ cache_keeps k new w = ap (λ (n : ℕ). let s : Still = (w.indexes, w.guards, n)
 
 -- What holds of both ways holds of the one that is chosen.
 either : (t : Bool) (v u : World) (value : Still) → still v ≡ value → still u ≡ value → still (if t then v else u) ≡ value
-either true v u value one other = one
-either false v u value one other = other
+either t v u value one other = search arith
 
 -- What keeps indexes and guards each time keeps them when done for a whole list.
 pub each_keeps : {A : Type 0} (does : A → World → World) (xs : List A) → ((x : A) (w : World) → still (does x w) ≡ still w) → (w : World)
@@ -311,8 +304,7 @@ readies_keep : (k : ℕ) (d : Directory) (page : ℕ) (w : World) → still (rea
 readies_keep k d page w = backs_keep k page (deeds k d page w) ∙ deeds_keep k d page w
 
 first_keeps : (k name : ℕ) (l : Local) (slots : List ℕ) (w : World) → still (gives_first k name l slots w) ≡ still w
-first_keeps k name l [] w = refl
-first_keeps k name l (s ∷ rest) w = cache_keeps k (record (cache_of w k) { locals = others l.heap l.class (locals_of w k) ++ record l { slots = rest } ∷ [] }) w
+first_keeps k name l slots w = search (arith, cache_keeps)
 
 fetches_keep : (f : Profile) (k name heap class : ℕ) (w : World) → still (fetches f k name heap class w) ≡ still w
 fetches_keep f k name heap class w = search (arith, first_keeps, readies_keep)
@@ -329,8 +321,7 @@ class_keeps f k name heap class (Some l) w =
 -- ---- a pass
 -- ==== THE INDEXES of a state of the text, which each act changes as it changes those of a replay, and how many caches it has, which no act changes.
 either_many : (t : Bool) (v u : World) (n : ℕ) → length v.caches ≡ n → length u.caches ≡ n → length (if t then v else u).caches ≡ n
-either_many true v u n one other = one
-either_many false v u n one other = other
+either_many t v u n one other = search arith
 
 -- ==== REQUESTS AND OPERATIONS change what a replay's change of the indexes, and neither a guard nor how many caches there are.
 -- the guards and the caches of this state, with these indexes
@@ -354,16 +345,7 @@ request_indexes f k name heap route room align w = ap (λ (s : Still). s.0) (ser
 -- ---- an operation
 operation_still : (f : Profile) (k : ℕ) (what : What) (w : World)
     → still (operates f k what w) ≡ with_indexes (after_operation f (request_by w.names what) w.indexes) w
-operation_still f k (What.Alloc name heap size align) w = serves_still f k name heap (route_in f size align) (room_in f size align) align w
-operation_still f k (What.Guarded keeper name heap size align) w = serves_still f k name heap (route_in f size align) (room_in f size align) align w
-operation_still f k (What.Free name) w = what_keeps f k name 0 (standing_for w.names name) w
-operation_still f k (What.FreeSized name room) w = what_keeps f k name room (standing_for w.names name) w
-operation_still f k (What.Raw block) w = frees_keep f k (entry_of block) w
-operation_still f k (What.RawSized room block) w = frees_keep f k (sized_entry block room) w
-operation_still f k (What.Remake name old heap size align) w = search (arith, serves_still, cache_keeps, either, flushes_keep)
-operation_still f k What.Flush w = flushes_keep f k w
-operation_still f k What.Stop w = stops_keep f k w
-operation_still f k what w = refl
+operation_still f k what w = search (arith, serves_still, what_keeps, frees_keep, cache_keeps, either, flushes_keep, stops_keep)
 
 -- ---- what was noted comes to the indexes
 noted_still : (runs : List EndedRun) (w : World) → still (each indexes_run runs w) ≡ with_indexes (with_noted w.indexes runs) w

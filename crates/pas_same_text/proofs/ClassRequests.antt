@@ -4,20 +4,20 @@ use Rattle.pas_same_text.proofs.Common.{or-false, LendsNone, address_of, false�
 use Rattle.pas_same_text.proofs.Common.{IsSlotStart, deed_word_of, IsAdmitted, class_home, is_shared, kind_of_class, route_in, room_in, Directory, Event}
 use Rattle.pas_same_text.proofs.Common.{NoRoom, Block, Profile, Route, class_grains_positive, usable_grains_le, slot_end, triples, events_by, Once, Always}
 use Rattle.pas_same_text.proofs.Common.{View, has_right, known_deed, Whole, part, Legal, Only, Giving, LookLife, returning, Made, part_of_own, events_same}
-use Rattle.pas_same_text.proofs.Common.{free_of_page, agreed_steps, lends_none, legal_earlier, KeepsMarks, searching, MaySearch, start_of, LeavesWhere, NoSlot}
-use Rattle.pas_same_text.proofs.Common.{fewer_slots, Slots, GivesSlot, Cached, any_covers, covers, filling_in, IsRefill, IsObtained, IsAnswered, ServesClass}
-use Rattle.pas_same_text.proofs.Common.{Progress, named, Named, Answer, after_answer, Cache, World, Local, cache_of, IsFreeSlot, is_guarded, IsBetween}
-use Rattle.pas_same_text.proofs.Common.{IsSearch, serves, some_of, searched, readies, address_on, slots_for, gives_first, takes_page, fetches, serves_class}
-use Rattle.pas_same_text.proofs.{Common.{IsSame, HasSame, IsSameLocal, AreSameLocals, AreSameCaches, has_number}, PlacesFit.{class_fits, read_unguarded}}
-use Rattle.pas_same_text.proofs.{SmallActs.after_with, MadePlace.{all_left, up_to}, TakenSince.{shared_row, right_kept, exclusive_free}, TakenSlots.all_taken}
-use Rattle.pas_same_text.proofs.{TakenSlots.{row_taken, slots_rise}, Tests.and_first, Pieces.has_same, RunsFound.{shown, shown_rest}, FetchedClasses.HasPlace}
-use Rattle.pas_same_text.proofs.FetchedClasses.{may_fetch, class_served_by, fetched_so, class_refused, IsFetched, with_place, place_fetched, text_fetched}
-use Rattle.pas_same_text.proofs.{FetchedClasses.{fetch_between, fetch_carried}, CachedSlots.{text_locals, HasHead, head_of, cached_answered, HasAsked}}
-use Rattle.pas_same_text.proofs.{CachedSlots.answer_reached, GivenBlocks.{GivesBlock, page_chosen, page_ready, page_given}, CacheLists.{same_with, others_same}}
-use Rattle.pas_same_text.{proofs.CacheLists.{last_same, slot_given, same_own}, specs.Classes.local_on}
+use Rattle.pas_same_text.proofs.Common.{free_of_page, agreed_steps, lends_none, legal_earlier, KeepsMarks, searching, MaySearch, LeavesWhere, NoSlot}
+use Rattle.pas_same_text.proofs.Common.{fewer_slots, Slots, GivesSlot, Cached, any_covers, filling_in, IsRefill, IsObtained, IsAnswered, ServesClass, Progress}
+use Rattle.pas_same_text.proofs.Common.{named, Named, Answer, after_answer, Cache, World, Local, cache_of, IsFreeSlot, is_guarded, IsBetween, IsSearch, serves}
+use Rattle.pas_same_text.proofs.Common.{some_of, searched, readies, address_on, slots_for, gives_first, takes_page, fetches, serves_class, IsSame, HasSame}
+use Rattle.pas_same_text.proofs.{Common.{IsSameLocal, AreSameLocals, AreSameCaches, has_number}, PlacesFit.{class_fits, read_unguarded}, SmallActs.after_with}
+use Rattle.pas_same_text.proofs.{MadePlace.{all_left, up_to}, TakenSince.{shared_row, right_kept, exclusive_free}, TakenSlots.{all_taken, row_taken}}
+use Rattle.pas_same_text.proofs.{TakenSlots.slots_rise, Tests.and_first, Pieces.has_same, RunsFound.{shown, shown_rest}, FetchedClasses.{HasPlace, may_fetch}}
+use Rattle.pas_same_text.proofs.FetchedClasses.{class_served_by, fetched_so, class_refused, IsFetched, with_place, place_fetched, text_fetched, fetch_between}
+use Rattle.pas_same_text.proofs.{FetchedClasses.fetch_carried, CachedSlots.{text_locals, HasHead, head_of, cached_answered, HasAsked, answer_reached}}
+use Rattle.pas_same_text.proofs.{GivenBlocks.{GivesBlock, page_chosen, page_ready, page_given}, CacheLists.{same_with, others_same, last_same, slot_given}}
+use Rattle.pas_same_text.{proofs.CacheLists.same_own, specs.Classes.local_on}
 use Rattle.pas_steps.{specs.Evidence.ShowsHere, proofs.{Frames.right_of_own, Apart.deeds_same}}
-use Rattle.std.proofs.Common.{length, ◌≡◌, ℕ, ◌+◌, ◌/◌, ◌%◌, ◌≤◌, ◌==◌, Bool, true, false, not, if◌then◌else◌, List, [], ◌∷◌, ◌++◌, None, Some, Result, Ok, ◌⊎◌}
-use Rattle.std.proofs.Common.{inl, inr, refl, ap, sym, ◌∙◌, subst, append_assoc, arith, append-nil, true≢false, eq-eqb, eqb-true, Err}
+use Rattle.std.proofs.Common.{length, ◌≡◌, ℕ, ◌+◌, ◌/◌, ◌≤◌, ◌==◌, Bool, true, false, not, if◌then◌else◌, List, [], ◌∷◌, ◌++◌, None, Some, Result, Ok, ◌⊎◌, inl}
+use Rattle.std.proofs.Common.{inr, refl, ap, sym, ◌∙◌, subst, append_assoc, arith, append-nil, true≢false, eq-eqb, eqb-true, Err}
 use Rattle.pas_segregated.specs.Refills.{GivesSlots, GetsSlots}
 use Rattle.pas_cache.{specs.Serves.took_in, proofs.Obtained.kept_by}
 
@@ -188,18 +188,12 @@ module _ (f : Profile) (k name heap class : ℕ) (p : Progress) (w : World) (has
   -- ---- what was used: the page
   cached_at : (j g : ℕ) (t : Bool) → (j == k) ≡ t → any_covers (if t then new else p.caches j).locals g ≡ true
       → (any_covers (p.caches j).locals g ≡ true) ⊎ ((slots.page == g / 256) ≡ true)
-  cached_at j g true e h = elim (or_cases _ _ (sym (list_any-append (λ s. covers s g) c.locals (rest ∷ [])) ∙ h)) [
-    | inl was ↦ inl (ap (λ (i : ℕ). any_covers (p.caches i).locals g) (eqb-true j k e) ∙ was)
-    | inr own ↦ inr (cc (and_first (rest.page == g / 256) (is_set rest.starts (start_of rest.class (g % 256))) (sym (or-false (covers rest g)) ∙ own)))
-  ]
-  cached_at j g false e h = inl h
+  cached_at j g t e h = grind (arith, or_cases, list_any-append, eqb-true, and_first, or-false)
 
   -- ---- a shared page is left before the block is given, and an exclusive one is kept
   knows : known_deed (part k q.list) slots.page ≡ deed_word_of d
   knows =
-      ap (λ (u : View). known_deed u slots.page) (part_of_own k steps p.list
-      ∙ (ap (λ (ms : List Made). ms ++ own) (append_assoc given refill.after sought) ∙ append_assoc given (refill.after ++ sought) own))
-      ∙ (deeds_same (Giving ∷ LookLife ∷ []) refl slots.page given ((refill.after ++ sought) ++ own) given_kinds ∙ gains.may_stop.deed)
+      search (arith, part_of_own, deeds_same, given_kinds, gains)
 
   -- the search kept the right of a shared page
   read_with_right : (t : Bool) → t ≡ true → took_in (kind_of_class t class) class slots.page sought slots.starts

@@ -10,12 +10,11 @@ pub use Rattle.pas_cache.{proofs.{Alone.filling_for, Routes.may_find}, specs.{Ca
 pub use Rattle.pas_cache.specs.{Changes.{IsWithoutSlot, StopsFirst}, Contents.Cached, Kinds.{allocating, releasing}, Locals.{IsLocal, RestsWith, any_covers}}
 pub use Rattle.pas_cache.specs.{Locals.{covers, local_for, others_than}, Serves.{Fetches, IsAnswered, IsObtained, IsRefill, ServesBy, ServesClass, ServesPages}}
 pub use Rattle.pas_cache.specs.Serves.{filling_in, wanted_for}
-pub use Rattle.pas_core.proofs.{Deeds.{backed_of, deed_has_page, deed_kept, deed_of, directory_is_of, known_is, looked, number_told}, Grains.one_holder}
-pub use Rattle.pas_core.proofs.{MachineRuns.{agrees, in_one_place, one_backed, runs}, Nexts.agreed_steps, Offers.{hinted_at_rest, offered_at_rest}}
-pub use Rattle.pas_core.proofs.{OneActor.{LendsNone, deed_same, free_stays, legal_before, legal_earlier, lends_none, offered_deed}, Rights.deeds_known}
-pub use Rattle.pas_core.{proofs.Rights.{hinted_page, is_with, offered_has_deed, right_in_one_place, right_not_offered, spot_of, spotted}, specs.Fits.HasNoFit}
-pub use Rattle.pas_core.specs.{Good.{IsInOnePlace, IsPartOf, word_of_backed, word_of_deed}, Hints.IsEmptyBacked, Rights.{IsRightInOnePlace, IsUsableFree}}
-pub use Rattle.pas_core.specs.Rights.{eligible_bit, empty_bit, free_of_page}
+pub use Rattle.pas_core.proofs.{Deeds.{backed_of, deed_has_page, deed_of, directory_is_of, known_is, looked}, Grains.one_holder, MachineRuns.agrees}
+pub use Rattle.pas_core.proofs.{MachineRuns.{in_one_place, one_backed, runs}, Nexts.agreed_steps, Offers.{hinted_at_rest, offered_at_rest}, OneActor.LendsNone}
+pub use Rattle.pas_core.proofs.{OneActor.{deed_same, free_stays, legal_before, legal_earlier, lends_none, offered_deed}, Rights.{deeds_known, hinted_page}}
+pub use Rattle.pas_core.{proofs.Rights.{right_in_one_place, right_not_offered, spotted}, specs.{Fits.HasNoFit, Good.{IsInOnePlace, IsPartOf, word_of_backed}}}
+pub use Rattle.pas_core.specs.{Good.word_of_deed, Hints.IsEmptyBacked, Rights.{IsRightInOnePlace, IsUsableFree, eligible_bit, empty_bit, free_of_page}}
 pub use Rattle.pas_free_log.{proofs.AllEntries.take_none, specs.{Endings.{IsEndOf, reason_for}, Flushes.{AfterEnd, EntrySteps, Settled, event_for}}}
 pub use Rattle.pas_free_log.specs.{Flushes.{noted_after, shown_for}, Frames.{ending, freeing}, declared.ending.Outcome.TheVariants.{Ended, Refused}}
 pub use Rattle.pas_free_log.specs.declared.noting.EndedRun.{EndedRun}
@@ -23,8 +22,7 @@ pub use Rattle.pas_guard.specs.{Books.{Each, FitsBook, is_outer, is_outer_of}, K
 pub use Rattle.pas_guard.specs.Sweeps.{SweepSteps, sweeping}
 pub use Rattle.pas_large.proofs.{Claims.span_in, Finds.MadeOf, Left.{hints_both, only_leaves}, Told.{looks_same, lowest_alone, never_fails}}
 pub use Rattle.pas_large.specs.{Allocates.{IsScanned, IsServedNamed}, Claims.in_span, Doors.{Indexes, found_in, no_ranges}, Evidence.DeedsRise, Finds.MayFind}
-pub use Rattle.pas_large.specs.{Finds.finding, Gives.{BackStep, pages_from, run_block}, Pages.GotPages, Telling.{IsLowestRun, IsNamedWhole, IsUsablePage}}
-pub use Rattle.pas_large.specs.Telling.{IsUsableRun, IsWholePage}
+pub use Rattle.pas_large.specs.{Finds.finding, Gives.{BackStep, pages_from, run_block}, Pages.GotPages, Telling.{IsLowestRun, IsUsableRun}}
 pub use Rattle.pas_machine.{proofs.LiveBlocks.lives_where, specs.{Machine.Run, State.{Live, backed_in, deed_in, ends_in, epoch_in, gives_in, live_in}}}
 pub use Rattle.pas_partial.specs.Rows.{IsFreeSlot, IsLowestRow}
 pub use Rattle.pas_profile.proofs.{Codecs.{deed_word_of-positive, directory_from_profile, read-deed_word_of, same_from_deed_word}, Lists.{all_both, all_map}}
@@ -62,13 +60,13 @@ pub use Rattle.pas_segregated.{proofs.Starts.{start_at, start_below}, specs.{Mas
 pub use Rattle.pas_segregated.specs.{Takes.fewer_slots, declared.slots.Slots.Slots}
 pub use Rattle.pas_steps.proofs.{Adding.triples_append, Apart.{epoch_same, events_same, in_apart, no_events, only_both, only_within}, Calls.returns_are}
 pub use Rattle.pas_steps.proofs.{Frames.events_append, Parts.{part_of_others, part_of_own}, Past.{always_both, always_map, once_later, once_map}}
-pub use Rattle.pas_steps.{proofs.Sets.same_truth, specs.{Agreement.Agreed, Allowed.Allowed, Clear.HasNothing, Desks.{made, triple, triples}}}
-pub use Rattle.pas_steps.specs.{Effects.{free_word_at, target}, Events.{event_of, events_by, with_event}, Evidence.Readings, Frames.{IsReturn, OnlyReturns}}
-pub use Rattle.pas_steps.specs.{InTurn.InTurn, Kinds.{Backing, Giving, Hinting, Kinds, LookDeed, LookFree, LookLife, Offering, Only, Putting, Stamping, Taking}}
-pub use Rattle.pas_steps.specs.{Kinds.{Unbacking, Unhinting, apart, is_in, kind_of, looking, place_of, returning, showing}, Lists.{Legal, Whole, part, visible}}
-pub use Rattle.pas_steps.specs.{Lists.word_after, Past.{Always, Once, Since}, Views.{View, all_ones, epoch_of, has_right, holds, known_deed, usable_by_kind}}
-pub use Rattle.pas_steps.specs.declared.step.{Made.Made, Step.{Step, TheVariants.{Back, Deed, End, EndSized, Give, Hint, Look, Offer, Park, Stamp, Take}}}
-pub use Rattle.pas_steps.specs.declared.step.Step.TheVariants.{TakeRight, Unback, Unhint, Unpark}
+pub use Rattle.pas_steps.{proofs.Sets.same_truth, specs.{Agreement.Agreed, Clear.HasNothing, Desks.{made, triple, triples}, Effects.{free_word_at, target}}}
+pub use Rattle.pas_steps.specs.{Events.{event_of, events_by, with_event}, Evidence.Readings, Frames.{IsReturn, OnlyReturns}, InTurn.InTurn, Kinds.Backing}
+pub use Rattle.pas_steps.specs.Kinds.{Giving, Hinting, Kinds, LookDeed, LookFree, LookLife, Offering, Only, Putting, Stamping, Taking, Unbacking, Unhinting}
+pub use Rattle.pas_steps.specs.{Kinds.{apart, is_in, kind_of, looking, place_of, returning, showing}, Lists.{Legal, Whole, part, visible, word_after}}
+pub use Rattle.pas_steps.specs.{Past.{Always, Once, Since}, Views.{View, all_ones, epoch_of, has_right, holds, known_deed, usable_by_kind}}
+pub use Rattle.pas_steps.specs.declared.step.{Made.Made, Step.{Step, TheVariants.{Back, Deed, Give, Hint, Look, Offer, Park, Stamp, Take, TakeRight, Unback}}}
+pub use Rattle.pas_steps.specs.declared.step.Step.TheVariants.{Unhint, Unpark}
 pub use Rattle.pas_trace.{proofs.Keepers.plan_actors, specs.{Acts.{Act, numbers_from}, Asked.request_in, EveryPlan.IsThread, Plans.{IsPlanOf, Parsed}}}
 pub use Rattle.pas_trace.specs.declared.{fault.{Reason.Reason, TraceFault.TraceFault}, item.Request.Request, plan.{Op.Op, Plan.Plan, What.What}}
 pub use Rattle.pas_trace.specs.declared.plan.What.TheVariants.{Alloc, Free, Raw}

@@ -152,12 +152,7 @@ module _ (f : Profile) (k epoch : ℕ) (s : Settled) (piece : List Made) (l : Wh
       (ends_in (visible lm) (16 * g)) s.entry.name.turn is.order.guess (life_of f lm valid ends_legal.1 g) turn (sym (search (arith, ends_legal)) ∙ hit) in
       let b : Live = o.0 in
       let alive : IsLifeOfLive f g word b (gives_in (visible lm) (16 * g)) (ends_in (visible lm) (16 * g)) = rw o.1 at (life_of f lm valid ends_legal.1 g) in
-      let long : length_of b.block ≡ is.order.guess = omega (
-        arith,
-        (sym hit
-            ∙ ((let it : is.order.answer ≡ word_after lm (life_word_at (grain_of s.entry.name)) = search (arith, ends_legal) in it) ∙ alive.word_is)),
-        o.3,
-      ) in
+      let long : length_of b.block ≡ is.order.guess = search (arith, ends_legal) in
       let some : 1 ≤ is.order.guess = within.3 in
       search (arith, visible_steps k first l ∙ ap (λ (es : List Event). es ++ visible l) (idle.events k (part k l)), ends_legal, guessed, eq-eqb, true≢false)
 

@@ -1,16 +1,16 @@
 -- SLOTS OF A CLASS ARE FETCHED for a request: place is made for a local allocator, in the text too, and from there on the fetch is a request of its own. At the
 -- end: no page serves it, in the text either.
-use Rattle.std.proofs.Common.{◌==◌, ◌≡◌, ℕ, ◌≤◌, ◌<◌, nat_le, Bool, false, ◌||◌, List, [], ◌∷◌, ◌++◌, length, Option, None, Some, Result, refl, ap, sym, ◌∙◌}
-use Rattle.std.proofs.Common.{subst, append-nil, append_assoc, arith, true≢false, eq-eqb, Ok, Err, inl, inr}
+use Rattle.std.proofs.Common.{◌≡◌, ℕ, ◌≤◌, ◌<◌, nat_le, Bool, false, ◌||◌, List, [], ◌∷◌, ◌++◌, length, Option, None, Some, Result, refl, ap, sym, ◌∙◌, subst}
+use Rattle.std.proofs.Common.{append-nil, append_assoc, arith, true≢false, eq-eqb, Ok, Err, inl, inr}
 use Rattle.pas_same_text.proofs.{CacheLists.{again_at, same_own, same_again, Finds, found_same, same_many, given_up_keeps, first_up_keeps}, Common.filling_for}
 use Rattle.pas_same_text.proofs.Common.{false_from_ne_true, nat_tests, find, is_set, IsValid, IsAdmitted, class_home, route_in, room_in, Event, NoRoom, Profile}
 use Rattle.pas_same_text.proofs.Common.{Word, Directory, Route, class_grains_positive, usable_grains_le, triples, events_by, View, Whole, part, word_after}
 use Rattle.pas_same_text.proofs.Common.{Legal, Made, triples_append, no_events, events_append, part_of_own, agreed_steps, legal_earlier, MaySearch, AreSearch}
 use Rattle.pas_same_text.proofs.Common.{IsTrueReason, NoSlot, fewer_slots, Slots, AtRest, StopsFirst, Cached, releasing, filling_in, Fetches, IsRefill}
 use Rattle.pas_same_text.proofs.Common.{IsObtained, IsAnswered, ServesClass, IsLocal, RestsWith, local_for, others_than, Said as TheSaid, IsThread, Progress}
-use Rattle.pas_same_text.proofs.Common.{Named, records_of, said_by, Caches, named, Answer, after_answer, said_of_room, Local, World, locals_of, some_of}
-use Rattle.pas_same_text.proofs.Common.{refusal, refuses, AreResting, IsBetween, serves, is_for, fetches, serves_class_by, serves_class, takes_page, IsSame}
-use Rattle.pas_same_text.proofs.{Common.{ArePagesSame, has_number, HasNoFit, IsRefused, refused_told}, SmallActs.after_with, SeatedActs.middle_rest}
+use Rattle.pas_same_text.proofs.Common.{Named, records_of, said_by, named, Answer, after_answer, said_of_room, Local, World, locals_of, some_of, refusal}
+use Rattle.pas_same_text.proofs.Common.{refuses, IsBetween, serves, is_for, fetches, serves_class_by, serves_class, takes_page, IsSame, ArePagesSame}
+use Rattle.pas_same_text.proofs.{Common.{has_number, HasNoFit, IsRefused, refused_told}, SmallActs.after_with, SeatedActs.middle_rest}
 use Rattle.pas_same_text.proofs.{BitfitRequests.none_searched, PlacesFit.class_fits, Pieces.has_same, SearchedPages.{refused_to, refused_same}}
 use Rattle.pas_same_text.proofs.{CachedSlots.{HasAsked, answer_reached}, MadePlace.{up_to, placed_by, place_made, none_same, most_left, known_found}}
 use Rattle.pas_cache.{specs.{Serves.IsFilling, Changes.LeavesSpent}, proofs.Obtained.may_search}
@@ -107,18 +107,14 @@ module _ (f : Profile) (k heap class : ℕ) (p : Progress) (w : World) (found : 
 
   -- Once the old local allocator is gone the replay is between two pieces.
   middle : IsBetween f p1
-  middle = record {
-    legal = legal_middle;
-    rest = middle_rest f p k c1 xs o.valid o.thread o.before own legal_middle own_rest;
-  }
+  middle = search (arith, legal_middle, middle_rest, own_rest)
 
   -- And it is where the text is.
   placed : IsSame f p1 w1
   placed = place_made f k heap class p w fewer xs o.valid o.thread o.listed o.before o.same o.fetch.place o.fetch.gives_back middle
 
   many_placed : (x : Option Local) → length (placed_by k x w).caches ≡ length w.caches
-  many_placed None = same_many w (placed_by k None w) (first_up_keeps k (locals_of w k) w)
-  many_placed (Some l) = same_many w (placed_by k (Some l) w) (given_up_keeps k l w)
+  many_placed x = search (arith, same_many, first_up_keeps, given_up_keeps)
 
   none_left : local_for heap class fewer ≡ None
   none_left = search (arith, none_stopped, none_others)
@@ -168,11 +164,7 @@ module _ (f : Profile) (k heap class : ℕ) (p : Progress) (w : World) (found : 
 
     -- A replay that is between two acts is so too when told as a fetch after the place was made.
     pub fetch_between : IsBetween f q → IsBetween f q1
-    fetch_between after = record {
-      legal = subst (Legal f) list_is after.legal;
-      rest = subst (λ (caches : Caches). AreResting f caches p.books q1.list) (sym (λ i j. again_at p.caches j k c1 new (j == k) i))
-          (subst (AreResting f q.caches p.books) list_is after.rest);
-    }
+    fetch_between after = search (arith, list_is, again_at)
 
     events_are : events_by k (part k p.list) (more ++ steps) ≡ events_by k (part k p1.list) (more ++ ys)
     events_are =

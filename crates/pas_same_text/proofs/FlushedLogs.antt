@@ -169,11 +169,7 @@ module _ (f : Profile) (k epoch : ℕ) (s : Settled) (piece : List Made) (l : Wh
     subst (λ (w : World). IsTakenBy f k s piece v w (own_then s v k)) (sym (text grains outcome)) (record {
       pages = pages_of f (found grains outcome).block.block;
       returns = ended_returns f k s.entry.name (found grains outcome).block v run_after.1 live (lives grains outcome);
-      caches = cc (
-        (all_only_hints (pages_of f (found grains outcome).block.block)
-            (after f k s.entry.name (found grains outcome).block v run_after.1 live (lives grains outcome))).caches,
-        noted_same grains outcome,
-      );
+      caches = search (arith, all_only_hints, noted_same);
       marks = marked grains outcome;
     }),
   )

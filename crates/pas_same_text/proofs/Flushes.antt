@@ -6,9 +6,9 @@ use Rattle.pas_same_text.proofs.Common.{live_after, set_log, notes, lives_in, pa
 use Rattle.pas_same_text.proofs.Common.{triple, triples, event_of, events_by, with_event, View, epoch_of, Whole, part, visible, Legal, Made, Look, Kinds, Only}
 use Rattle.pas_same_text.{proofs.Common.{apart, showing, triples_append, part_of_own, no_events, runs}, specs.{State.block_at, Frees.reason}}
 use Rattle.pas_same_text.specs.Entries.{IsEntryReason, IsEntryEvent, HaveOutcomes, are_unsized, onto, events_of_flush, HasShown, IsFlushOf}
-use Rattle.std.proofs.Common.{◌≡◌, ℕ, ◌<◌, ◌==◌, true, false, not, if◌then◌else◌, List, [], ◌∷◌, Option, Some, refl, ap, sym, ◌∙◌, subst, arith, eq-eqb, ne_eqb}
-use Rattle.std.proofs.{Common.{◌++◌, map, reverse, append_assoc}, lemmas.List.map_push}
-use Rattle.pas_machine.{specs.{Laws.IsCounted, Machine.{IsLive, IsReason, HasOtherRoom}}, proofs.LiveBlocks.all_counted}
+use Rattle.std.proofs.Common.{◌≡◌, ℕ, ◌==◌, true, false, List, [], ◌∷◌, Option, Some, refl, ap, sym, ◌∙◌, subst, arith, eq-eqb, ne_eqb, ◌++◌, map, reverse}
+use Rattle.std.proofs.{Common.append_assoc, lemmas.List.map_push}
+use Rattle.pas_machine.{specs.{Laws.IsCounted, Machine.{IsLive, IsReason}}, proofs.LiveBlocks.all_counted}
 use Rattle.pas_free_log.specs.declared.ending.Outcome.{Outcome}
 use Rattle.pas_guard.proofs.Keepers.{older_legal}
 use Rattle.pas_steps.proofs.Frames.{with_append}
@@ -40,17 +40,7 @@ as_shown e w v x is shown = subst (IsShown e w) (sym is) shown
 module _ (f : Profile) (k : ℕ) (entry : Entry) (w : World) (live : w.live ≡ lives_in w.events) where
   -- A logged free whose refusal has this true reason is refused with it in the text.
   pub reject_text : (why : Why) → Run f w.events → IsReason w.events entry.name why → IsEntryReason entry why → ends f k entry w ≡ rejects k entry.name why w
-  reject_text Why.Ended run past is =
-      rejected f k entry w _ live refl (λ b at.
-      ne_eqb b.block.name.turn entry.name.turn (λ same. let turn : b.block.name.turn ≡ ends_in w.events (address_of entry.name) =
-      turn_of_live f w.events _ b run at in absurd (omega (arith, past, same, turn))))
-      ∙ ap (λ (x : Why). rejects k entry.name x w) (search (arith, nat_tests))
-  reject_text Why.NoBlock run none is = search (arith, rejected, ne_eqb)
-  reject_text (Why.SizeDiffers room) run other is =
-      let o : HasOtherRoom w.events entry.name room = other.1 in
-      let differs : not (o.block.block.room == entry.room) ≡ true = ap not (ne_eqb o.block.block.room entry.room (λ same. o.differs (same ∙ sym is.1))) in
-      let lives_text : ends f k entry w ≡ (if true then rejects k entry.name (Why.SizeDiffers entry.room) w else ends_block f k entry.name o.block.block w) =
-      search (arith, block_here, eq-eqb) in cc (lives_text)
+  reject_text why run past is = search (arith, rejected, ne_eqb, turn_of_live, nat_tests, block_here, eq-eqb)
 
   -- A logged free of a live block by its own name and room ends that block in the text.
   pub end_text : (b : Live) → live_in w.events (address_of entry.name) ≡ Some b → b.block.name.turn ≡ entry.name.turn → is_other_room entry b.block ≡ false

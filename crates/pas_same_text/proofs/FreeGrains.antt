@@ -5,8 +5,8 @@ use Rattle.pas_same_text.proofs.Common.{and_from, or_right, false_from_ne_true, 
 use Rattle.pas_same_text.proofs.Common.{grain_of as first_grain, Event, Block, Name, Profile, Live, live_in, Run, is_at, World, cache_in, Local, is_guarded}
 use Rattle.pas_same_text.proofs.Common.{is_free, is_covered, is_cached, blocks_on, locals_on, is_kept, lives_in, raised_by, AreSameGuards, HasSame}
 use Rattle.pas_same_text.proofs.Common.{AreSameLocals, runs, in_one_place, is_outer_of, is_outer, Guard, Books, Progress, IsValid, lives_where, part, visible}
-use Rattle.pas_same_text.proofs.Common.{Whole, Legal, View, holds, has_right, IsPartOf, IsInOnePlace, free_of_page, any_covers, IsThread, IsBetween, free_bit}
-use Rattle.pas_same_text.proofs.{Common.{Slots, Raised}, Tests.{and_first, and_second, any_filtered, filtered_any, any_weaker, on_page}, CacheLists.all_locals}
+use Rattle.pas_same_text.proofs.Common.{Whole, Legal, holds, has_right, IsPartOf, IsInOnePlace, free_of_page, any_covers, IsThread, IsBetween, free_bit, Slots}
+use Rattle.pas_same_text.proofs.{Common.Raised, Tests.{and_first, and_second, any_filtered, filtered_any, any_weaker, on_page}, CacheLists.all_locals}
 use Rattle.pas_same_text.proofs.CacheLists.{has_grain, grains_same, IsOfCache, of_cache, in_all, cached_any, any_cached}
 use Rattle.pas_cache.specs.Locals.{any_keeps}
 use Rattle.std.proofs.{Math.Bool.and_comm, Common.{arith, ◌≡◌, ℕ, ◌/◌, ◌<◌, ◌≢◌, ◌==◌, Bool, true, false, not, ◌&&◌, ◌||◌, if◌then◌else◌, List, [], ◌∷◌}}
@@ -163,9 +163,7 @@ free_uncovered f l valid legal g free address b lives of = search (arith, in_one
 module _ (f : Profile) (p : Progress) (between : IsBetween f p) where
   -- who holds a grain is an actor of the region, and so is who has a right
   pub holder_thread : (k g : ℕ) → holds (part k p.list) g ≡ true → IsThread f k
-  holder_thread k g h = thread_or f k
-      (λ zero. false≢true (sym (between.rest.scavenger.grains g) ∙ (ap (λ (j : ℕ). holds (part j p.list) g) (sym zero) ∙ h)))
-      (λ past. false≢true (ap (λ (v : View). holds v g) (sym (no_other_actor f p.list between.legal k past)) ∙ h))
+  holder_thread k g h = search (arith, thread_or, false≢true, no_other_actor)
 
   -- an actor holds the grains that its cache has, and those of the outer pages of its guards, and no others
   pub cached_held : (k g : ℕ) → IsThread f k → any_covers (p.caches k).locals g ≡ true → holds (part k p.list) g ≡ true
@@ -315,9 +313,7 @@ module _ (f : Profile) (p : Progress) (w : World) (valid : IsValid f) (between :
   -- A page whose right some actor has is kept by a local allocator in the text.
   pub kept_by : (k page : ℕ) → has_right (part k p.list) page ≡ true → is_kept w page ≡ true
   kept_by k page h =
-      let is : IsThread f k = thread_or f k
-      (λ zero. false≢true (sym (between.rest.scavenger.rights page) ∙ (ap (λ (j : ℕ). has_right (part j p.list) page) (sym zero) ∙ h)))
-      (λ past. false≢true (ap (λ (v : View). has_right v page) (sym (no_other_actor f p.list between.legal k past)) ∙ h)) in
+      let is : IsThread f k = search (arith, thread_or, false≢true, no_other_actor) in
       filtered_any (λ l. l.keeps) (λ l. l.page == page) (all_locals w.caches) (in_all w.caches k (keeps_page page)
       ((let it : list_any (keeps_page page) (cache_in w.caches k).locals ≡ has_right (part k p.list) page = search (arith, all_kept) in it) ∙ h))
 

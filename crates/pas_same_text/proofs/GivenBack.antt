@@ -6,11 +6,11 @@ use Rattle.pas_guard.specs.Books.{AreApart}
 use Rattle.pas_same_text.{specs.{Pages.{each_of, is_free_of}, Guards.without_guard, Indexes.run_of}, proofs.Common.{Raised, nat_tests, list_any-append}}
 use Rattle.pas_same_text.proofs.Common.{or-false, false≢true, or_cases, or_left, false_from_ne_true, cases_eq, and_from, list_any, filter, IsPage, grain_of}
 use Rattle.pas_same_text.proofs.Common.{length_of, address_of, Profile, Block, Event, Name, Record, Said, is_outer_of, is_outer, Guard, World, each, Local}
-use Rattle.pas_same_text.proofs.Common.{is_at, shows, cache_of, noted_of, is_guarded, minds, is_free, is_empty, is_hinted, page_numbers, is_covered, is_cached}
-use Rattle.pas_same_text.proofs.Common.{blocks_on, locals_on, lowers, raised_by, has_number, lives_in, notes, pages_of, ends_block, meets_page, in_run}
-use Rattle.pas_same_text.proofs.{Common.{backed_in, Run, Live, live_in, numbers_from, same_truth, EndedRun}, FreeGrains.{has_outer, LivesSo, lives_so}}
-use Rattle.pas_same_text.proofs.{SmallActs.records_next, CacheLists.{same_guards, minds_keep, all_locals, locals_with}, Tests.{and_first, and_second}}
-use Rattle.pas_same_text.proofs.Tests.{any_filtered, filtered_any, any_weaker, any_split, filtered_has, has_filtered}
+use Rattle.pas_same_text.proofs.Common.{is_at, shows, noted_of, is_guarded, minds, is_free, is_empty, is_hinted, page_numbers, is_covered, is_cached, blocks_on}
+use Rattle.pas_same_text.proofs.Common.{locals_on, lowers, raised_by, has_number, lives_in, notes, pages_of, ends_block, meets_page, in_run, backed_in, Run}
+use Rattle.pas_same_text.proofs.{Common.{Live, live_in, numbers_from, same_truth, EndedRun}, FreeGrains.{has_outer, LivesSo, lives_so}, SmallActs.records_next}
+use Rattle.pas_same_text.proofs.{CacheLists.{same_guards, minds_keep, all_locals, locals_with}, Tests.{and_first, and_second, any_filtered, filtered_any}}
+use Rattle.pas_same_text.proofs.Tests.{any_weaker, any_split, filtered_has, has_filtered}
 
 -- ==== What the text does where grains come back to pages: which grains are free then, and which pages are hinted.
 -- ---- tests of numbers that follow each other
@@ -177,8 +177,7 @@ module _ (f : Profile) (k : ℕ) (name : Name) (b : Live) (w : World) (run : Run
       ]
 
   cached_same : (page g : ℕ) → is_cached (locals_on after page) g ≡ is_cached (locals_on w page) g
-  cached_same page g = ap (λ (ls : List Local). is_cached (filter (λ l. l.page == page) ls) g)
-      (locals_with w.caches k (record (cache_of w k) { noted = noted_then }) refl)
+  cached_same page g = simp locals_with
 
   -- by cases on what is covered
   freed_more : (x y c : Bool) → (y ≡ true → x ≡ true) → (not x && c) ≡ true → (not y && c) ≡ true

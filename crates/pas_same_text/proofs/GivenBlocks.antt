@@ -201,8 +201,7 @@ module _ (page start n name : ℕ) {f : Profile} {k : ℕ} {p : Progress} (c : C
 
   -- ---- the page is left before the block is given, behind the give, or not at all
   left_order : (t : Bool) (xs : List Made) → LeavesWhere t page d xs → LeftAll d (if t then page ∷ [] else []) xs
-  left_order true xs leaves = (xs, [], leaves, refl, sym (append-nil xs))
-  left_order false xs none = none
+  left_order t xs leaves = search (arith, append-nil)
 
   module _ (t : Bool) (late left gave : List Made) (leaves : LeavesWhere t page d left) (late_kinds : Only (Giving ∷ LookLife ∷ []) late)
       (gave_kinds : Only giving gave) (rest_is : rest ≡ late ++ (left ++ gave)) (right : has_right (got ++ part k p.list) page ≡ true)

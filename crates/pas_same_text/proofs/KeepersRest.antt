@@ -1,6 +1,6 @@
 -- WHERE THREADS AND KEEPERS ARE AT REST with their caches and books, all actors of the region rest; and keepers are so after what they do.
 use Rattle.pas_same_text.proofs.Common.{nat_tests, or-false, cases_lt, cases_Bool, eqb-false, or_cases, Profile, Word, Block, part, Legal, Whole, word_after}
-use Rattle.pas_same_text.proofs.Common.{visible, View, holds, Allowed, triples, Since, HasNothing, Giving, LookLife, returning, Act, IsThread, Progress, Books}
+use Rattle.pas_same_text.proofs.Common.{visible, View, holds, triples, Since, HasNothing, Giving, LookLife, returning, Act, IsThread, Progress, Books}
 use Rattle.pas_same_text.proofs.Common.{AreAtRest, IsResting, AreResting, IsBetween, IsThreadOf, IsKeeperOf, AreSeated, large_of, IsValid, backed_in, Made}
 use Rattle.pas_same_text.proofs.Common.{Back, part_of_others, part_of_own, triples_append, always_map, word_of_backed, one_holder, agrees, agreed_steps}
 use Rattle.pas_same_text.proofs.Common.{legal_earlier, IsBeside, sweeping, SweepSteps, guard_of, filter, give_steps, MayFind, is_outer_of, is_outer, Each}
@@ -56,11 +56,7 @@ held_unbacked : (f : Profile) (k j page : ℕ) (xs : List Made) (l : Whole) → 
     → ((g : ℕ) → g / 256 ≡ page → holds (part j l) g ≡ true) → BacksNot page xs
 held_unbacked f k j page [] l valid legal other held = tt
 held_unbacked f k j page (m ∷ xs) l valid legal other held = (
-  λ e. (let may = subst (Allowed f (part k (triples k xs ++ l))) e legal.0.allowed in
-      let on = may.0 in
-      let its : holds (part j (triples k xs ++ l)) on.0 ≡ true =
-      ap (λ (v : View). holds v on.0) (part_of_others j k xs l (λ same. true≢false (sym (eq-eqb k j same) ∙ other))) ∙ held on.0 on.1 in
-      true≢false (sym (one_holder f (triples k xs ++ l) valid legal.1 k j on.0 on.2 its) ∙ other)),
+  search (arith, part_of_others, true≢false, eq-eqb, one_holder),
   held_unbacked f k j page xs l valid legal.1 other held,
 )
 

@@ -9,10 +9,10 @@ use Rattle.pas_same_text.proofs.{StopSteps.no_other_counted, FreeGrains.{guards_
 use Rattle.pas_same_text.proofs.{FreeGrains.holder_thread, RestingPages.{is_open, IsGivenBack, covered_not_held, free_left, given_pages}, StepMarks.hint_marks}
 use Rattle.pas_same_text.proofs.{StepMarks.{offer_marks, epoch_stays_by}, Common.{AreSameCaches, false≢true, list_any, find, IsPage, IsValid, IsDirectoryOf}}
 use Rattle.pas_same_text.proofs.Common.{Profile, Directory, Event, Local, Cache, World, cache_of, locals_of, set_locals, is_for, others, gives_up, is_of}
-use Rattle.pas_same_text.proofs.Common.{IsBetween, free_bit, live_in, events_by, Only, part, visible, holds, Made, only_within, events_same, one_holder}
-use Rattle.pas_same_text.proofs.Common.{freeing, home_of, StopStepsAt, Slots, Cached, releasing, IsLocal, covers, any_covers, IsThread, Progress, with_steps}
-use Rattle.pas_same_text.proofs.Common.{Record, IsSame, HasSame, IsSameLocal, AreSameLocals, lives_in, nat_tests, All-head, All-tail, same_Some, none-some}
-use Rattle.pas_same_text.proofs.Common.{count_by, start_of, LeavesWhere, start_below, StopsFirst, local_for, others_than, gives_up_first, makes_place}
+use Rattle.pas_same_text.proofs.Common.{IsBetween, free_bit, live_in, Only, part, visible, holds, Made, only_within, events_same, one_holder, freeing, home_of}
+use Rattle.pas_same_text.proofs.Common.{StopStepsAt, Slots, Cached, releasing, IsLocal, covers, any_covers, IsThread, Progress, with_steps, Record, IsSame}
+use Rattle.pas_same_text.proofs.Common.{HasSame, IsSameLocal, AreSameLocals, lives_in, nat_tests, All-head, All-tail, same_Some, none-some, count_by, start_of}
+use Rattle.pas_same_text.proofs.Common.{LeavesWhere, start_below, StopsFirst, local_for, others_than, gives_up_first, makes_place}
 use Rattle.pas_bits.specs.Masks.{IsEmpty}
 use Rattle.pas_cache.specs.{Serves.MakesPlace, Locals.is_for as is_for_slots}
 
@@ -97,8 +97,7 @@ module _ (f : Profile) (k : ℕ) (p : Progress) (w : World) (s : Slots) (l : Loc
   -- ---- events and caches
   -- They make no event.
   shown : visible p1.list ≡ visible p.list
-  shown = visible_steps k steps p.list ∙ ap (λ (es : List Event). es ++ visible p.list)
-      (ap (events_by k (part k p.list)) (sym (append-nil steps)) ∙ events_same releasing refl k (part k p.list) steps [] o.kinds)
+  shown = cc (visible_steps k steps p.list, append-nil steps, events_same releasing refl k (part k p.list) steps [] o.kinds)
 
   -- Afterwards the replay has what the text has.
   has : HasSame f p1 v
@@ -144,8 +143,7 @@ module _ (f : Profile) (k : ℕ) (p : Progress) (w : World) (s : Slots) (l : Loc
         (λ p none h. any_other p l.heap l.class l (locals_of w k) unique o.found none h);
     kinds = freed;
     hints = one_hints s steps o.order;
-    marks = λ q of hint. ap (λ (t : Bool). t || false)
-        (eq-eqb l.page q (o.local.page ∙ (one_marked s q steps o.known.class o.order (hint_marks q steps hint)).page));
+    marks = λ q of hint. cc (eq-eqb l.page q (o.local.page ∙ (one_marked s q steps o.known.class o.order (hint_marks q steps hint)).page));
     rooms = λ q d of is offer. marked_room q d of is (one_marked s q steps o.known.class o.order (offer_marks q steps offer));
     guarded = λ q none. still_unguarded w v q (same_guards w v (given_up_keeps k l w)) none;
   }

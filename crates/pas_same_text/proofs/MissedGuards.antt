@@ -9,8 +9,8 @@ use Rattle.pas_same_text.proofs.{Pieces.{IsPiece, UsesOnly, free_kept, hinted_be
 use Rattle.pas_same_text.proofs.{RunsFound.{with_deed, deeded, deeds_of, shown, shown_events, shown_records, shown_lives, shown_rest}, RestingPages.open_from}
 use Rattle.pas_same_text.proofs.{RestingPages.{deed_now, bit_tells, bit_offered}, SoughtRuns.{IsRunOf, IsMadeOf, unowned_free, visible_mid, made_events}}
 use Rattle.pas_same_text.proofs.{SoughtRuns.{none_made, none_pages, IsSought}, GivenBlocks.{AreReadying, made_ready, ready_deeds, ready_lives}}
-use Rattle.std.proofs.Common.{map, ◌⊎◌, ne_eqb, append-nil, ◌≡◌, ℕ, ◌+◌, ◌*◌, ◌<◌, ◌==◌, Bool, true, false, if◌then◌else◌, List, [], ◌∷◌, ◌++◌, Some, inl, inr}
-use Rattle.std.proofs.Common.{refl, ap, sym, ◌∙◌, subst, arith, eq-eqb, eqb-true}
+use Rattle.std.proofs.Common.{map, ◌⊎◌, ne_eqb, append-nil, ◌≡◌, ℕ, ◌+◌, ◌*◌, ◌<◌, ◌==◌, Bool, true, false, List, [], ◌∷◌, ◌++◌, Some, refl, ap, sym, ◌∙◌}
+use Rattle.std.proofs.Common.{arith, eq-eqb, eqb-true}
 
 -- ---- the pages whose deeds were made
 newest_listed : (s : Step) (a q : ℕ) (e : Directory) (ps : List ℕ) → s ≡ Deed q e → a ≡ 0 → has_number (with_deed s a ps) q ≡ true
@@ -45,9 +45,7 @@ pub left_free : (f : Profile) (q : Progress) (v : World) (d : Directory) → IsV
     → free_bit q.list (256 * page + 0) ≡ true → usable_by_kind d.kind 0 ≡ true → deed_in v.events page ≡ Some d → (e : Directory) → IsDirectoryOf f e
     → eligible_bit q.list (number_of e) page ≡ true → is_offered v e page ≡ true
 left_free f q v d valid there now page free has_room deed e of_e bit =
-    let tells = bit_tells f q v valid there now page e of_e (right_in_one_place f q.list there.legal page) bit in
-    let same : e ≡ d = same_Some e d (sym (deed_now f q v valid there now page e of_e tells.0) ∙ (ap (λ (es : List Event). deed_in es page) (sym now.events) ∙ deed)) in
-    bit_offered f q v valid there now page e of_e bit (open_from f q v valid there now e page 0 (omega arith) (ap (λ (x : Directory). usable_by_kind x.kind 0) same ∙ has_room) free)
+    search (arith, bit_tells, right_in_one_place, same_Some, deed_now, bit_offered, open_from)
 
 -- ==== THE SEARCH THAT FOUND NONE
 module _ {f : Profile} {k heap n : ℕ} {p q : Progress} {w : World} {xs : List Made} (s : IsSought f k heap n p w xs) (found : SoughtNone f (large_of heap) n xs)
@@ -123,24 +121,12 @@ module _ {books books' : Books} (k : ℕ) (g : Guard) (own : books' k ≡ books 
     where
       at : (j : ℕ) (t : Bool) → (j == k) ≡ t → filter (λ h. h.keeper == j) (gs ++ raised_by k g ∷ []) ≡ map (raised_by j) (books' j)
       at j true e =
-          subst (λ (i : ℕ). filter (λ h. h.keeper == i) (gs ++ raised_by k g ∷ []) ≡ map (raised_by i) (books' i)) (sym (eqb-true j k e))
-          (filter-append (λ h. h.keeper == k) gs (raised_by k g ∷ [])
-          ∙ (ap (λ (t : Bool). filter (λ h. h.keeper == k) gs ++ (if t then raised_by k g ∷ [] else [])) (eq-eqb k k refl)
-          ∙ (ap (λ (hs : List Raised). hs ++ raised_by k g ∷ []) (same.each k)
-          ∙ (sym (map-append (raised_by k) (books k) (g ∷ [])) ∙ ap (map (raised_by k)) (sym own)))))
+          search (arith, eqb-true, filter-append, eq-eqb, map-append)
       at j false e = search (arith, filter-append, ne_eqb, eqb-false, append-nil)
 
   -- An outer page is one that it was before, or one of that guard.
   pub outer_or : (j x : ℕ) → is_outer (books' j) x ≡ true → (is_outer (books j) x ≡ true) ⊎ (is_outer_of g x ≡ true)
-  outer_or j x h = elim (cases_Bool (j == k)) [
-    | inl e ↦
-        let here : j ≡ k = eqb-true j k e in
-        elim (outer_last (books k) g x (ap (λ (gs : List Guard). is_outer gs x) (sym own) ∙ (ap (λ (i : ℕ). is_outer (books' i) x) (sym here) ∙ h))) [
-          | inl was ↦ inl (ap (λ (i : ℕ). is_outer (books i) x) here ∙ was)
-          | inr new ↦ inr new
-        ]
-    | inr e ↦ inl (ap (λ (gs : List Guard). is_outer gs x) (sym (others j e)) ∙ h)
-  ]
+  outer_or j x h = search (arith, cases_Bool, eqb-true, outer_last)
 
   -- The outer pages of that guard are its keeper's.
   pub outer_more : (x : ℕ) → is_outer_of g x ≡ true → is_outer (books' k) x ≡ true

@@ -1,5 +1,5 @@
 -- ONE ACT keeps the text, by all that is known of it.
-use Rattle.std.proofs.Common.{◌≡◌, ℕ, ◌≤◌, Bool, List, Option, None, Some, inl, inr, refl, sym, subst}
+use Rattle.std.proofs.Common.{arith, ◌≡◌, ℕ, ◌≤◌, Bool, List, Option, None, Some, inl, inr, refl, sym, subst}
 use Rattle.pas_same_text.proofs.Common.{IsAdmitted, route_in, Route, Block, Profile, part, Indexes, Act, IsThread, Request, What, Progress, Named, Answer}
 use Rattle.pas_same_text.proofs.Common.{having, standing_for, IsServed, IsRemadeBy, after_answer, IsNamedBy, World, IsSame, IsBetween, HandsOnOwn, IsKnown}
 use Rattle.pas_same_text.proofs.{Common.{KeepsSame, IsActOf, IsAsked, AnswersSame, RequestStaysSame, remakes, acts_on}, BackActs.{flush_act, stop_act, end_act}}
@@ -104,9 +104,7 @@ own_same threads f (Act.Ends k) own p p' w indexes known = end_act f k (thread_o
 own_same threads f (Act.Lowers keeper) own p p' w indexes known = lower_act f keeper (keeper_of threads f keeper known.planned.0) p p' w known.taken
 
 hands_on_own : (threads : ℕ) (f : Profile) (act : Act) → IsOwn act → IsActOf threads f act → threads ≤ f.threads → HandsOnOwn f act
-hands_on_own threads f (Act.Settles k) own is few = thread_of threads f k is few
-hands_on_own threads f (Act.Guards keeper op) own is few = own
-hands_on_own threads f act own is few = tt
+hands_on_own threads f act own is few = search (arith, thread_of)
 
 -- ---- AN ACT
 pub act_same : (threads : ℕ) (f : Profile) (act : Act) → KeepsSame threads f act

@@ -5,14 +5,14 @@ use Rattle.pas_same_text.proofs.{SmallActs.after_with, FreeGrains.guards_as, Run
 use Rattle.pas_same_text.proofs.{RunsFound.{deeded_falls, deeded_within, deeds_in_turn, deeds_in_run}, Common.{has_number, false≢true, IsValid, IsDirectoryOf}}
 use Rattle.pas_same_text.proofs.Common.{Directory, Event, Block, Profile, deed_word_of-positive, Run, triples, events_by, InTurn, Always, View, Only, part}
 use Rattle.pas_same_text.proofs.Common.{Legal, Made, only_within, always_map, word_of_deed, deed_of, runs, agreed_steps, legal_earlier, give_steps, IsInRun}
-use Rattle.pas_same_text.proofs.Common.{ReturnsDuly, in_span, DeedsRise, MayFind, finding, BackStep, pages_from, seeking, MadeOf, span_in, AtRest, Cached}
-use Rattle.pas_same_text.proofs.Common.{any_covers, may_find, Record, IsThread, Progress, named, records_of, with_cache as with_cached, World, large_of, IsSame}
-use Rattle.pas_same_text.proofs.Common.{HasSame, AreSameCaches, IsBetween, deeds, backs, address_on, gives, run_block, GotPages, lowest_alone, lends_none}
-use Rattle.pas_same_text.proofs.Common.{IsLone, address_of, IsAdmitted, route_in, room_in, is_shared, kind_of_route, Route, NoRoom, Whole, Kinds, apart}
-use Rattle.pas_same_text.proofs.Common.{showing, looking, triples_append, part_of_own, always_both, in_apart, only_both, AreQuiet, IsQuiet, IsServedNamed}
-use Rattle.pas_same_text.proofs.Common.{IsScanned, Indexes, found_in, IsLowestRun, IsNamedWhole, ServesPages, wanted_for, Act, Request, Alloc, Answer}
-use Rattle.pas_same_text.proofs.Common.{after_answer, said_of_request, block_of as block_answered, IsNamedBy, serves, acts_on, IsTaken, named_run, lowest_run}
-use Rattle.pas_same_text.proofs.{GivenBlocks.{epoch_now, events_now, live_now, names_now, records_now}, SearchedPages.{refused_to, refused_same, lowest_found}}
+use Rattle.pas_same_text.proofs.Common.{ReturnsDuly, in_span, DeedsRise, MayFind, finding, BackStep, pages_from, span_in, AtRest, Cached, any_covers, may_find}
+use Rattle.pas_same_text.proofs.Common.{Record, IsThread, Progress, named, records_of, with_cache as with_cached, World, large_of, IsSame, HasSame}
+use Rattle.pas_same_text.proofs.Common.{AreSameCaches, IsBetween, deeds, backs, address_on, gives, run_block, GotPages, lowest_alone, lends_none, IsLone}
+use Rattle.pas_same_text.proofs.Common.{address_of, IsAdmitted, route_in, room_in, is_shared, kind_of_route, Route, NoRoom, Whole, Kinds, apart, showing}
+use Rattle.pas_same_text.proofs.Common.{looking, triples_append, part_of_own, always_both, in_apart, only_both, AreQuiet, IsQuiet, IsServedNamed, IsScanned}
+use Rattle.pas_same_text.proofs.Common.{Indexes, found_in, IsLowestRun, ServesPages, wanted_for, Act, Request, Alloc, Answer, after_answer, said_of_request}
+use Rattle.pas_same_text.proofs.{Common.{block_of as block_answered, IsNamedBy, serves, acts_on, IsTaken, named_run, lowest_run}, GivenBlocks.epoch_now}
+use Rattle.pas_same_text.proofs.{GivenBlocks.{events_now, live_now, names_now, records_now}, SearchedPages.{refused_to, refused_same, lowest_found}}
 use Rattle.pas_same_text.proofs.{SearchedPages.{none_lowest, named_whole, whole_named}, CachedSlots.{HasAsked, answer_reached, by_route, request_taken}}
 use Rattle.pas_same_text.specs.{Runs.{gives_pages, run_or, serves_run}, Indexes.loses_named}
 use Rattle.std.proofs.Common.{false, ◌≡◌, ◌≢◌, ℕ, ◌+◌, ◌*◌, ◌≤◌, ◌==◌, true, List, ◌∷◌, ◌++◌, Option, None, Some, inl, refl, ap, sym, ◌∙◌, subst, arith}
@@ -67,9 +67,7 @@ module _ (f : Profile) (k name heap first n : ℕ) (p : Progress) (u : World) (g
 
   given : GivesPages f k heap first n first n p q u got run.backs run.left rest run.word run.answer (pages_from first n) block
   given =
-      let made : MadeOf large got = always_map _ _ got (λ m before h x e same zero. (h x e same zero).0) run.deeds_in in
-      let within : (first ≤ first) × (first + n ≤ first + n) = (omega arith, omega arith) in
-      assumption (within, only_within finding seeking got refl run.kinds, made, pages_got, all_in_run first n, run, there, same)
+      search (arith, always_map, only_within, pages_got, all_in_run)
 
   -- ---- the text
   abbrev ds : List Event
@@ -249,8 +247,7 @@ module _ (f : Profile) (k name heap size align : ℕ) (p : Progress) (a : Answer
       → named_run w heap n ≡ o → run_or (named_run w heap n) (lowest_run f w heap n) ≡ Some first
   chosen_by block is first at lowest None none = cc (lowest_found f p w asked.valid asked.before asked.same.pages old heap of n first some lowest)
   chosen_by block is first at lowest (Some x) named =
-      let takes = (by_door (Ok block) is).served x (subst (λ (o : Option ℕ). IsNamedWhole f d n p.list o x) (sym named_is)
-      (named_whole f p w asked.valid asked.before asked.same.pages old heap of n x some named)) in
+      let takes = (by_door (Ok block) is).served x (rw named_is (named_whole f p w asked.valid asked.before asked.same.pages old heap of n x some named)) in
       let one : x ≡ first = omega (arith, at, (ap address_in takes.1 ∙ takes.2)) in
       ap (λ (o : Option ℕ). run_or o (lowest_run f w heap n)) named ∙ ap (λ (y : ℕ). Some y) one
     where
@@ -272,8 +269,7 @@ module _ (f : Profile) (k name heap size align : ℕ) (p : Progress) (a : Answer
   no_named : (room : NoRoom) (is : asked.served.answer ≡ Err room) → (o : Option ℕ) → named_run w heap n ≡ o → o ≡ None
   no_named room is None named = refl
   no_named room is (Some x) named =
-      let takes = (by_door (Err room) is).served x (subst (λ (o : Option ℕ). IsNamedWhole f d n p.list o x) (sym named_is)
-      (named_whole f p w asked.valid asked.before asked.same.pages old heap of n x some named)) in
+      let takes = (by_door (Err room) is).served x (rw named_is (named_whole f p w asked.valid asked.before asked.same.pages old heap of n x some named)) in
       absurd (let bad : Err room ≡ Ok takes.0 = takes.1 in cc)
 
   refused_by : (room : NoRoom) (is : asked.served.answer ≡ Err room)

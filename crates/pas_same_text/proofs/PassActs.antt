@@ -13,8 +13,8 @@ use Rattle.pas_same_text.proofs.{PassOutcomes.{stays_hinted, WasOffered, has_sam
 use Rattle.pas_same_text.{proofs.RestingPages.{offered_bit, bit_offered}, specs.Passes.{passes, free_bits, comes_to, examines}}
 use Rattle.pas_profile.specs.Profiles.{vector_words}
 use Rattle.std.proofs.Common.{◌≡◌, ℕ, zero, suc, ◌+◌, ◌*◌, ◌^◌, ◌≤◌, ◌==◌, Bool, true, false, not, if◌then◌else◌, List, [], ◌∷◌, ◌++◌, map, reverse}
-use Rattle.std.proofs.Common.{append_assoc, append-nil, Option, None, Some, refl, ap, sym, ◌∙◌, subst, arith, true≢false, eq-eqb, eqb-true, ne_eqb, ◌<◌, ◌&&◌}
-use Rattle.std.proofs.{Common.{inl, inr}, lemmas.{List.{Concat.flat_map-append, Elements.filter_agree}, Simd.map-map}}
+use Rattle.std.proofs.Common.{append_assoc, append-nil, Option, None, Some, refl, ap, sym, ◌∙◌, subst, arith, true≢false, eq-eqb, eqb-true, ne_eqb, ◌&&◌, inl}
+use Rattle.std.proofs.{Common.inr, lemmas.{List.{Concat.flat_map-append, Elements.filter_agree}, Simd.map-map}}
 use Rattle.pas_scavenger.specs.{Pages.unback_of, Passes.{passing, PassSteps}}
 use Rattle.pas_answers.specs.{PassRecords.record_of, Answers.after_pass}
 
@@ -69,23 +69,19 @@ pub record HasLeft (w v : World) : Type 0 where
   pub read : v.read ≡ w.read
 
 come_left : (page : ℕ) (o : Outcome) (w : World) → HasLeft w (comes_to page o w)
-come_left page Outcome.Unbacked w = record { live = refl; lives = refl; names = refl; caches = refl; guards = refl; epoch = refl; read = refl }
-come_left page o w = record { live = refl; lives = refl; names = refl; caches = refl; guards = refl; epoch = refl; read = refl }
+come_left page o w = search arith
 
 -- ---- hints: the page loses its own where its outcome ends it
 hint_was : (page : ℕ) (stays : Bool) (hinted : List ℕ) (q : ℕ) → has_number (if stays then hinted else filter (λ p. not (p == page)) hinted) q ≡ true
     → has_number hinted q ≡ true
-hint_was page true hinted q h = h
-hint_was page false hinted q h = (filtered_has (λ p. not (p == page)) hinted q h).1
+hint_was page stays hinted q h = search (arith, filtered_has)
 
 hint_so : (page : ℕ) (stays : Bool) (hinted : List ℕ) → has_number (if stays then hinted else filter (λ p. not (p == page)) hinted) page ≡ true → stays ≡ true
-hint_so page true hinted h = refl
-hint_so page false hinted h = absurd (true≢false (sym (filtered_has (λ p. not (p == page)) hinted page h).0 ∙ ap not (eq-eqb page page refl)))
+hint_so page stays hinted h = search (arith, true≢false, filtered_has, eq-eqb)
 
 hint_still : (page : ℕ) (stays : Bool) (hinted : List ℕ) (q : ℕ) → has_number hinted q ≡ true → (page ≡ q → stays ≡ true)
     → has_number (if stays then hinted else filter (λ p. not (p == page)) hinted) q ≡ true
-hint_still page true hinted q h so = h
-hint_still page false hinted q h so = has_filtered (λ p. not (p == page)) hinted q (not_from_false (q == page) (ne_eqb q page (λ e. false≢true (so (sym e))))) h
+hint_still page stays hinted q h so = search (arith, has_filtered, not_from_false, ne_eqb, false≢true)
 
 -- ==== PAGES COME to these outcomes, one after the other
 pub record HasCome (out : ℕ → Outcome) (pages : List ℕ) (w v : World) : Type 0 where
@@ -136,8 +132,7 @@ module _ (f : Profile) (w : World) (test : ℕ → Bool) where
       → each (examines f) xs (comes_to k (out k) v) ≡ each (λ q. comes_to q (out q)) xs (comes_to k (out k) v)
       → each (examines f) xs v ≡ each (λ q. comes_to q (out q)) xs v
       → each (examines f) (if t then k ∷ xs else xs) v ≡ each (λ q. comes_to q (out q)) (if t then k ∷ xs else xs) v
-  one_examined v k xs true agree after before = ap (λ (o : Outcome). each (examines f) xs (comes_to k o v)) agree ∙ after
-  one_examined v k xs false agree after before = before
+  one_examined v k xs t agree after before = search arith
 
   all_examined : (n k : ℕ) (v : World) → ((q : ℕ) → k ≤ q → outcome_of f v q ≡ out q)
       → each (examines f) (filter test (numbers_from k n)) v ≡ each (λ q. comes_to q (out q)) (filter test (numbers_from k n)) v

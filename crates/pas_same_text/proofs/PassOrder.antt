@@ -1,6 +1,6 @@
 -- THE PAGES OF A PASS in order: it tries just the pages that were hinted when it began, upwards.
 use Rattle.std.proofs.Common.{◌≡◌, ℕ, zero, suc, ◌+◌, ◌*◌, ◌/◌, ◌%◌, ◌<◌, ◌≤◌, Bool, true, false, if◌then◌else◌, List, [], ◌∷◌, ◌++◌, map, reverse}
-use Rattle.std.proofs.Common.{append_assoc, append-nil, Option, None, Some, inl, inr, refl, ap, sym, ◌∙◌, subst, arith, true≢false, ne_eqb, eq-eqb}
+use Rattle.std.proofs.Common.{append_assoc, append-nil, Option, inl, inr, refl, ap, sym, ◌∙◌, subst, arith, true≢false, ne_eqb, eq-eqb}
 use Rattle.pas_same_text.proofs.Common.{cases_Bool, cases_eq, reverse_onto, filter-append, filter, has_bit, IsValid, Directory, Outcome, Profile, Word, made}
 use Rattle.pas_same_text.proofs.Common.{triples, InTurn, Whole, Legal, Made, Look, Offer, triples_append, IsEmptyBacked, empty_bit, legal_earlier, TrySteps}
 use Rattle.pas_same_text.proofs.Common.{outcomes_in, all_tried, numbers_from, Progress, World, outcome_of, IsSame, IsBetween, AreEndsStamped}
@@ -70,8 +70,7 @@ spared_offer q (m ∷ xs) spares (inr h) = spared_offer q xs spares.1 h
 
 -- ---- lists of tries
 first_outcome : (page : ℕ) (o : Option Outcome) (xs ys : List (ℕ × Outcome)) → with_outcome page o xs ++ ys ≡ with_outcome page o (xs ++ ys)
-first_outcome page None xs ys = refl
-first_outcome page (Some outcome) xs ys = refl
+first_outcome page o xs ys = search arith
 
 no_first : (x : ℕ) (xs : List ℕ) → x ∷ xs ≡ [] → ⊥
 no_first x xs e = cc

@@ -4,15 +4,15 @@ use Rattle.pas_same_text.proofs.{StepMarks.kept_over, GivenBack.{each_at, each_a
 use Rattle.pas_same_text.proofs.{SeatedActs.stamps_told, Common.{false≢true, cases_eq, false_from_ne_true, has_bit, Mask4, page_bit-set, page_bit-clear}}
 use Rattle.pas_same_text.proofs.Common.{full_bit, grain_of, number_of, deed_word_of, IsDirectoryOf, IsValid, IsPage, Directory, Outcome, Word, Profile, Event}
 use Rattle.pas_same_text.proofs.Common.{made, triples, IsReturn, OnlyReturns, Always, all_ones, Whole, word_after, Legal, looking, Only, LookFree, Kinds, apart}
-use Rattle.pas_same_text.proofs.Common.{LookDeed, Taking, Putting, Stamping, Made, Step, Deed, Back, Take, Give, End, EndSized, TakeRight, Offer, Park, Unpark}
-use Rattle.pas_same_text.proofs.Common.{Stamp, Hint, Unback, Unhint, only_both, only_within, always_both, always_map, empty_bit, eligible_bit, IsUsableFree}
-use Rattle.pas_same_text.proofs.Common.{looked, backed_of, offered_at_rest, right_in_one_place, looks_until, looks, word_take, takes, ones, Used, until_only}
+use Rattle.pas_same_text.proofs.Common.{LookDeed, Taking, Putting, Stamping, Made, Step, Deed, Back, Take, Give, TakeRight, Offer, Park, Unpark, Stamp, Hint}
+use Rattle.pas_same_text.proofs.Common.{Unback, Unhint, only_both, only_within, always_both, always_map, empty_bit, eligible_bit, IsUsableFree, looked}
+use Rattle.pas_same_text.proofs.Common.{backed_of, offered_at_rest, right_in_one_place, looks_until, looks, word_take, takes, ones, Used, until_only}
 use Rattle.pas_same_text.proofs.Common.{leave_returns, return_returns, looks_only, used_at, TrySteps, takes_until, first_looks, EndsWithout, ExamineSteps}
 use Rattle.pas_same_text.proofs.Common.{taken_on, looks_same, Progress, World, HasSame, IsBetween, IsSame, AreEndsStamped, is_free, are_free, is_guarded}
 use Rattle.pas_same_text.proofs.Common.{is_kept, outcome_backed, outcome_of, deed_word_of-positive, read-deed_word_of, directory_from_profile}
 use Rattle.pas_same_text.proofs.{Common.{same_from_deed_word, backed_in, epoch_in, word_of_backed, IsEmptyBacked}, RestingPages.{free_at, backed_unguarded}}
 use Rattle.pas_same_text.{proofs.RestingPages.{clear_of, bit_tells}, specs.Passes.{used_word, free_bits}}
-use Rattle.pas_steps.{specs.{declared.step.Step.TheVariants.Put, Kinds.{LookBacked, Claiming}}, proofs.Bits.all_set}
+use Rattle.pas_steps.{specs.{declared.step.Step.TheVariants.{End, EndSized, Put}, Kinds.{LookBacked, Claiming}}, proofs.Bits.all_set}
 use Rattle.std.proofs.Common.{arith, ◌≡◌, ℕ, ◌/◌, ◌%◌, ◌==◌, bit_and, Bool, true, false, if◌then◌else◌, List, [], ◌∷◌, ◌++◌, Option, None, Some, slice_index}
 use Rattle.std.proofs.Common.{inl, inr, refl, ap, sym, ◌∙◌, subst, w64, ◌≢◌, zero, suc, ◌<◌, ◌≤◌, true≢false, ne_eqb, ◌+◌, ◌-◌, ◌*◌, ◌^◌, not, nat_lt, eq-eqb}
 use Rattle.std.{proofs.{Common.{lt-ltb, le-ltb}, lemmas.Nat.mod-pow-add}, specs.Int.bit_at}
@@ -64,13 +64,7 @@ pub words_stay : (page k : ℕ) (xs : List Made) (l : Whole) → Spares page xs 
 words_stay page k [] l spares = record { words = record { free = λ word. refl; backed = refl; stamp = refl; deed = refl; offer = λ number. refl }; hint = refl }
 words_stay page k (m ∷ xs) l spares =
     let rest = words_stay page k xs l spares.1 in record {
-      words = record {
-        free = λ word. grind (arith, rest.words.free word, looked);
-        backed = grind (arith, rest.words.backed, looked);
-        stamp = grind (arith, rest.words.stamp, looked);
-        deed = grind (arith, rest.words.deed, looked);
-        offer = λ number. grind (arith, rest.words.offer number, looked, page_bit-clear, page_bit-set);
-      };
+      words = search (arith, looked, page_bit-clear, page_bit-set);
       hint = grind (arith, rest.hint, looked, page_bit-clear, page_bit-set);
     }
 
@@ -258,8 +252,7 @@ stays_hinted outcome = false
 
 -- ---- a backed word is 0 or 1
 was_backed : (b : Bool) (n : ℕ) → n ≡ word_of_backed b → n ≢ 0 → b ≡ true
-was_backed true n is some = refl
-was_backed false n is some = absurd (some is)
+was_backed b n is given = search arith
 
 module _ (f : Profile) (p : Progress) (w : World) (valid : IsValid f) (between : IsBetween f p) (same : IsSame f p w) (stamped : AreEndsStamped p.list) where
   -- the words of the page show that it is backed; all its grains are free

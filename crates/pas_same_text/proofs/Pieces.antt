@@ -1,19 +1,20 @@
 -- WHAT A PIECE OF STEPS LEFT, page by page, and what it used, from one state where all actors are at rest to another: what is free, open or without a guard on
 -- other pages is so still.
-use Rattle.pas_same_text.proofs.Common.{deed_word_numbered, word_of_deed, deed_of, number_told, offered_has_deed, AllByRecursion, list_any, Directory, Word}
-use Rattle.pas_same_text.proofs.Common.{Profile, InTurn, Always, Once, triples, has_right, holds, Made, Hint, Offer, LeaveSteps, GivesDuly, leave_due}
-use Rattle.pas_same_text.proofs.Common.{leave_returns, IsInRun, MakesNoDeedHere, pages_from, all_map, same_from_deed_word, has_bit, IsValid, IsDirectoryOf}
-use Rattle.pas_same_text.proofs.Common.{number_of, deed_word_of, IsKind, Whole, word_after, Legal, part, Event, visible, Kinds, Only, apart, Taking, Giving}
-use Rattle.pas_same_text.proofs.Common.{LookLife, Backing, returning, Progress, World, is_offered, is_guarded, is_hinted, HasSame, IsSame, ArePagesSame}
-use Rattle.pas_same_text.proofs.Common.{IsBetween, free_bit, false≢true, false_from_ne_true, cases_Bool, triples_append, only_both, only_within, once_later}
-use Rattle.pas_same_text.proofs.Common.{same_truth, eligible_bit, empty_bit, IsPartOf, legal_before, LendsNone, legal_earlier, right_not_offered}
-use Rattle.pas_same_text.proofs.Common.{right_in_one_place, hinted_at_rest, only_leaves, Live, live_in, deed_in, any_covers, allocating, is_outer, IsReturnOf}
-use Rattle.pas_same_text.proofs.{Common.ReturnsDuly, StepMarks.{IsMarked, marked_parts, returns_marked, HintsPage, once_parts, none_marked, hint_marks}}
-use Rattle.pas_same_text.proofs.StepMarks.{offer_marks, offered_by, hints_of, hint_read, free_read, OffersPage, hinted_stays, hinted_by, KeepsBacked, hint_was}
-use Rattle.pas_same_text.proofs.{StopSteps.{ReadsRoom, leave_room, room_earlier, room_later, grain_read}, RestingPages.{open_from, free_left, open_grows}}
-use Rattle.pas_same_text.proofs.RestingPages.{bit_at, is_open, bit_tells, bit_offered, deed_now, word_now, open_unguarded, had_open, clear_of, offered_bit}
-use Rattle.pas_same_text.proofs.FreeGrains.{not_outer, unguarded_by, bit_free, cached_held, free_uncovered, free_unheld, free_unless, held_by, holder_thread}
-use Rattle.pas_same_text.proofs.{FreeGrains.outer_held, Tests.on_page}
+use Rattle.pas_same_text.proofs.Common.{deed_word_numbered, word_of_deed, deed_of, AllByRecursion, list_any, Directory, Word, Profile, InTurn, Always, Once}
+use Rattle.pas_same_text.proofs.Common.{triples, has_right, holds, Made, Hint, Offer, LeaveSteps, GivesDuly, leave_due, leave_returns, IsInRun, MakesNoDeedHere}
+use Rattle.pas_same_text.proofs.Common.{pages_from, all_map, same_from_deed_word, has_bit, IsValid, IsDirectoryOf, number_of, deed_word_of, IsKind, Whole}
+use Rattle.pas_same_text.proofs.Common.{word_after, Legal, part, visible, Kinds, Only, apart, Taking, Giving, LookLife, Backing, returning, Progress, World}
+use Rattle.pas_same_text.proofs.Common.{is_offered, is_guarded, is_hinted, HasSame, IsSame, ArePagesSame, IsBetween, free_bit, false≢true, false_from_ne_true}
+use Rattle.pas_same_text.proofs.Common.{cases_Bool, triples_append, only_both, only_within, once_later, same_truth, eligible_bit, empty_bit, IsPartOf}
+use Rattle.pas_same_text.proofs.Common.{legal_before, LendsNone, legal_earlier, right_not_offered, right_in_one_place, hinted_at_rest, only_leaves, Live}
+use Rattle.pas_same_text.proofs.{Common.{live_in, deed_in, any_covers, allocating, is_outer, IsReturnOf, ReturnsDuly}, StepMarks.{IsMarked, marked_parts}}
+use Rattle.pas_same_text.proofs.StepMarks.{returns_marked, HintsPage, once_parts, none_marked, hint_marks, offer_marks, offered_by, hints_of, hint_read}
+use Rattle.pas_same_text.proofs.{StepMarks.{free_read, OffersPage, hinted_stays, hinted_by, KeepsBacked, hint_was}, StopSteps.{ReadsRoom, leave_room}}
+use Rattle.pas_same_text.proofs.{StopSteps.{room_earlier, room_later, grain_read}, RestingPages.{open_from, free_left, open_grows, bit_at, is_open, bit_tells}}
+use Rattle.pas_same_text.proofs.{RestingPages.{bit_offered, deed_now, word_now, open_unguarded, had_open, clear_of, offered_bit}, FreeGrains.not_outer}
+use Rattle.pas_same_text.proofs.FreeGrains.{unguarded_by, bit_free, cached_held, free_uncovered, free_unheld, free_unless, held_by, holder_thread, outer_held}
+use Rattle.pas_same_text.proofs.Tests.{on_page}
+use Rattle.pas_core.proofs.{Deeds.number_told, Rights.offered_has_deed}
 use Rattle.pas_steps.specs.Evidence.{GetsHere}
 use Rattle.std.proofs.Common.{ℕ, zero, suc, List, [], ◌∷◌, inl, inr, sym, subst, arith, ◌≡◌, ◌/◌, ◌%◌, true, ◌++◌, ap, ◌∙◌, ◌+◌, ◌*◌, ◌<◌, Bool, refl}
 use Rattle.std.proofs.Common.{append_assoc, false, Some, ◌⊎◌, true≢false, ◌==◌}
@@ -280,8 +281,7 @@ module _ {f : Profile} {k : ℕ} {p q : Progress} {w v : World} {mine : ℕ → 
   offered_still x e out of bit =
       let told = bit_tells f q v s.valid s.between s.now x e of (right_in_one_place f q.list s.between.legal x) bit in
       let deed : deed_in (visible p.list) x ≡ Some e =
-      ap (λ (es : List Event). deed_in es x) (sym s.same.pages.events)
-      ∙ (sym (s.deeds x out) ∙ (ap (λ (es : List Event). deed_in es x) s.now.events ∙ deed_now f q v s.valid s.between s.now x e of told.0)) in
+      cc (s.deeds x out, deed_now f q v s.valid s.between s.now x e of told.0) in
       let o : (i : ℕ) × (eligible_bit p.list i x ≡ true) =
       (elim (offered_by k steps p.list (number_of e) x (ap (λ (m : Whole). eligible_bit m (number_of e) x) (sym s.list) ∙ bit)) [
         | inl old ↦ (number_of e, old)

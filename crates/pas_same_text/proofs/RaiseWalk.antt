@@ -20,8 +20,7 @@ all_and P Q [] ps rs = tt
 all_and P Q (q ∷ qs) ps rs = ((ps.0, rs.0), all_and P Q qs ps.1 rs.1)
 
 by_test : (P : List ℕ → Type 0) (t : Bool) (xs ys : List ℕ) → (t ≡ true → P xs) → (t ≡ false → P ys) → P (if t then xs else ys)
-by_test P true xs ys one other = one refl
-by_test P false xs ys one other = other refl
+by_test P t xs ys one other = search arith
 
 module _ (e : ℕ) where
   -- A list of pages is its upper part and its lower part.

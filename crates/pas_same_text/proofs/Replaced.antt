@@ -3,16 +3,16 @@
 use Rattle.std.proofs.Common.{◌==◌, length, ◌≡◌, ℕ, ◌+◌, ◌≤◌, true, List, [], ◌∷◌, ◌++◌, All, None, Some, Result, Ok, Err, ◌⊎◌, inl, inr, refl, ap, sym, ◌∙◌}
 use Rattle.std.proofs.{Common.{subst, append_assoc, arith, map, reverse, Option, MatchResult, append-nil, eq-eqb}, lemmas.List.Sorted.IsPermutation-sym}
 use Rattle.std.proofs.lemmas.List.Sorted.{IsPermutation-to_front}
-use Rattle.pas_same_text.proofs.{CacheLists.{again_at, Still, serves_still, same_own}, MadePlace.up_to, BackActs.freed_any, SeatedActs.at_rest_now}
-use Rattle.pas_same_text.proofs.{SeatedActs.middle_rest, SmallActs.{after_with, page_inside, freed_is}, UsableBlocks.act_usable, FetchedClasses.HasPlace}
-use Rattle.pas_same_text.proofs.{FetchedClasses.{IsFetched, place_fetched}, Common.{filling_for, map-append, reverse-append, IsValid, IsAdmitted, route_in}}
-use Rattle.pas_same_text.proofs.Common.{is_shared, kind_of_route, class_home, directory_for, room_in, Directory, Route, NoRoom, Block, Profile, Event, Agreed}
-use Rattle.pas_same_text.proofs.Common.{triples, part, Legal, Whole, View, events_by, Made, triples_append, events_append, part_of_own, agreed_steps}
-use Rattle.pas_same_text.proofs.Common.{legal_earlier, IsServedNamed, IsScanned, MayFind, Slots, AtRest, Cached, TakesEntry, RestsWith, local_for, filling_in}
-use Rattle.pas_same_text.proofs.Common.{Fetches, IsObtained, ServesClass, ServesPages, ServesBy, IsAnswered as IsAnsweredBy, may_find, IsThread, Act, Request}
-use Rattle.pas_same_text.proofs.Common.{Alloc, Progress, Answer, wanted_by, Caches, Named, named, having, IsReplaced, records_of, said_by, with_steps}
-use Rattle.pas_same_text.proofs.Common.{after_answer, World, IsSame, IsBetween, IsResting, HasUsableBlocks, serves, IsAsked, AnswersSame, RequestStaysSame}
-use Rattle.pas_same_text.{proofs.Common.{entry_of, Entry, Record, Said as TheSaid, IsNamedBy, said_of_request, block_of}, specs.Order.{logs_replaced, replaces}}
+use Rattle.pas_same_text.proofs.{CacheLists.{again_at, serves_still, same_own}, MadePlace.up_to, BackActs.freed_any, SeatedActs.{at_rest_now, middle_rest}}
+use Rattle.pas_same_text.proofs.{SmallActs.{after_with, page_inside, freed_is}, UsableBlocks.act_usable, FetchedClasses.{HasPlace, IsFetched, place_fetched}}
+use Rattle.pas_same_text.proofs.Common.{filling_for, map-append, reverse-append, IsValid, IsAdmitted, route_in, is_shared, kind_of_route, class_home}
+use Rattle.pas_same_text.proofs.Common.{directory_for, room_in, Directory, Route, NoRoom, Block, Profile, Event, Agreed, triples, part, Legal, Whole, View}
+use Rattle.pas_same_text.proofs.Common.{events_by, Made, triples_append, events_append, part_of_own, agreed_steps, legal_earlier, IsServedNamed, IsScanned}
+use Rattle.pas_same_text.proofs.Common.{MayFind, Slots, AtRest, Cached, TakesEntry, RestsWith, local_for, filling_in, Fetches, IsObtained, ServesClass}
+use Rattle.pas_same_text.proofs.Common.{ServesPages, ServesBy, IsAnswered as IsAnsweredBy, may_find, IsThread, Act, Request, Alloc, Progress, Answer, wanted_by}
+use Rattle.pas_same_text.proofs.Common.{Caches, Named, named, having, IsReplaced, records_of, said_by, with_steps, after_answer, World, IsSame, IsBetween}
+use Rattle.pas_same_text.proofs.Common.{IsResting, HasUsableBlocks, serves, IsAsked, AnswersSame, RequestStaysSame, entry_of, Entry, Record, Said as TheSaid}
+use Rattle.pas_same_text.{proofs.Common.IsNamedBy, specs.Order.{logs_replaced, replaces}}
 use Rattle.pas_steps.proofs.Adding.{agreed_first, agreed_later}
 use Rattle.pas_bitfit.specs.Allocates.{bitfit_directory, IsAllocated}
 use Rattle.pas_cache.{specs.Serves.pages_of, proofs.{Resting.{found_passes, rests_kept, rests_reordered, rests_given}, Routes.bitfit_rests}}
@@ -229,11 +229,7 @@ module _ (f : Profile) (k : ℕ) (r : Request) (old : Block) (p : Progress) (a :
     between_end = let b : IsBetween f end = subst (IsBetween f) end_is after in record { legal = b.legal; rest = b.rest }
 
     listed_then : k ≤ length mid.caches
-    listed_then = omega (
-      arith,
-      asked.listed,
-      ap (λ (s : Still). s.2) (serves_still f k r.name r.heap (route_in f r.size r.align) (room_in f r.size r.align) r.align w),
-    )
+    listed_then = search (arith, serves_still)
 
     served_to : IsSame f (after_answer p k a) to
     served_to =
@@ -248,9 +244,7 @@ module _ (f : Profile) (k : ℕ) (r : Request) (old : Block) (p : Progress) (a :
   by_answer : (answer : Result Block NoRoom) → is.served.answer ≡ answer
       → MatchResult answer (λ block. TakesEntry f k is.placed.cache a.cache (entry_of old.name) is.freed) (λ room. (is.freed ≡ []) × (a.cache ≡ is.placed.cache))
       → IsSame f (after_answer p k a) to
-  by_answer (Ok block) e takes = served_to block (is.served.names_are ∙ ap (λ (x : Result Block NoRoom). named r.name (block_of x) ∷ p.names) e)
-      (is.served.said_is ∙ ap (said_of_request r.name) e) takes
-  by_answer (Err room) e none = unserved (is.served.names_are ∙ ap (λ (x : Result Block NoRoom). named r.name (block_of x) ∷ p.names) e) none.0 none.1
+  by_answer answer e takes = search (arith, served_to, unserved)
 
 -- ---- THE ACT, by what is known of it, and what its request comes to
 pub replaced_same : (f : Profile) (k : ℕ) (r : Request) (old : Block) (p : Progress) (a : Answer) (w : World) → old.heap ≡ r.heap → IsValid f → IsThread f k

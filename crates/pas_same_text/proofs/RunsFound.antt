@@ -1,16 +1,12 @@
 -- A PAGE IS MADE READY for a block: the events of a search before a give are those of the text, by the machine's rules alone.
 use Rattle.std.proofs.Common.{◌≡◌, ◌≢◌, ℕ, ◌==◌, Bool, true, false, if◌then◌else◌, List, [], ◌∷◌, ◌++◌, map, Option, None, Some, MatchOption, ◌⊎◌, inl, inr}
-use Rattle.std.proofs.{Common.{refl, ap, sym, ◌∙◌, subst, ◌+◌, ◌*◌, ◌/◌, ◌<◌, ◌≤◌, arith, true≢false, eq-eqb, eqb-true, zero, suc, ne_eqb}, lemmas.Bool.or_from}
+use Rattle.std.proofs.Common.{refl, ap, sym, ◌∙◌, subst, ◌+◌, ◌*◌, ◌/◌, ◌<◌, ◌≤◌, arith, true≢false, eq-eqb, eqb-true, zero, suc, ne_eqb}
 use Rattle.pas_same_text.proofs.Common.{none-some, Directory, Event, Profile, Block, grain_of, length_of, Run, deed_in, backed_in, event_of, with_event}
 use Rattle.pas_same_text.proofs.Common.{events_by, View, epoch_of, Made, Step, IsQuiet, IsDeedOrBack, EventsAt, Record, World, shows, live_after, is_none}
-use Rattle.pas_same_text.proofs.Common.{deeds, backs, readies, lives_in, to_run, never_fails, IsLone, false≢true, cases_eq, has_bit, IsKind, number_of}
-use Rattle.pas_same_text.proofs.Common.{deed_word_of, IsDirectoryOf, Word, deed_word_of-positive, all_map, triple, triples, made, target, Once, Always, Only}
-use Rattle.pas_same_text.proofs.Common.{kind_of, is_in, InTurn, holds, has_right, known_deed, Whole, part, word_after, Legal, visible, Deed, Back, Give, End}
-use Rattle.pas_same_text.proofs.Common.{EndSized, Unback, part_of_own, always_map, eligible_bit, looked, number_told, deed_kept, known_is, backed_of, LendsNone}
-use Rattle.pas_same_text.proofs.Common.{legal_before, lends_none, spot_of, spotted, offered_has_deed, deeds_known, MakesNoDeedHere, ReturnsDuly, DeedsRise}
-use Rattle.pas_same_text.proofs.Common.{IsWholePage, IsUsablePage, IsLowestRun, MayFind, finding, BackStep, pages_from, MadeOf, free_bit, each, IsInRun}
-use Rattle.pas_same_text.proofs.{Common.{AllByRecursion, seeking, numbers_from}, Tests.eqb_itself, Flushes.visible_steps}
-use Rattle.pas_steps.specs.Evidence.{ReadsFree}
+use Rattle.pas_same_text.proofs.Common.{deeds, backs, readies, lives_in, to_run, never_fails, IsLone, cases_eq, IsKind, all_map, triples, made, Always, Only}
+use Rattle.pas_same_text.proofs.Common.{kind_of, is_in, InTurn, Whole, part, Legal, visible, Deed, Back, Give, always_map, backed_of, DeedsRise, MayFind}
+use Rattle.pas_same_text.proofs.{Common.{BackStep, pages_from, MadeOf, each, IsInRun, AllByRecursion, seeking, numbers_from}, Tests.eqb_itself}
+use Rattle.pas_same_text.proofs.Flushes.{visible_steps}
 use Rattle.pas_machine.specs.Machine.{Admits, Bears}
 use Rattle.pas_large.specs.{Evidence.DeedsBelow, Finds.FoundRun}
 
@@ -64,8 +60,7 @@ module _ (k : ℕ) (d : Directory) (page : ℕ) where
   IsShownAt o = MatchOption o (Unit {0}) (IsAtPage k d page)
 
   by_answer : (t : Bool) (e : Event) → IsAtPage k d page e → IsShownAt (if t then Some e else None)
-  by_answer true e at = at
-  by_answer false e at = tt
+  by_answer t e at = search arith
 
   own_event : (epoch a : ℕ) (s : Step) → IsDeedOrBack d page s → IsShownAt (event_of k epoch s a)
   own_event epoch a s IsDeedOrBack.Deeds = by_answer (a == 0) (Event.Deed k page d) IsAtPage.Deeds
@@ -73,13 +68,11 @@ module _ (k : ℕ) (d : Directory) (page : ℕ) where
 
   -- A step of a search at one page shows nothing, or a deed or a backing of that page.
   pub event_at : (epoch : ℕ) (m : Made) → IsQuiet m ⊎ IsDeedOrBack d page m.step → IsShownAt (event_of k epoch m.step m.answer)
-  event_at epoch m (inl quiet) = subst IsShownAt (sym (quiet k epoch)) tt
-  event_at epoch m (inr own) = own_event epoch m.answer m.step own
+  event_at epoch m given = search (arith, own_event)
 
   -- Where all events are of one page, so are all with one of that page more.
   next_at : (o : Option Event) (es : List Event) → IsShownAt o → AllAtPage k d page es → AllAtPage k d page (with_event o es)
-  next_at None es at all = all
-  next_at (Some e) es at all = (at, all)
+  next_at o es at all = search arith
 
   -- The events of steps at one page are deeds of the directory and backs of that page.
   pub search_at : (v : View) (xs : List Made) → EventsAt d page xs → AllAtPage k d page (events_by k v xs)
@@ -308,8 +301,7 @@ module _ (k : ℕ) (d : Directory) where
 -- ---- BACKINGS
 module _ (f : Profile) (k : ℕ) (l : Whole) (u : World) (legal_l : Legal f l) (same : u.events ≡ visible l) where
   with_shown : (o : Option Event) (es : List Event) (v : World) → shown (with_event o []) (shown es v) ≡ shown (with_event o es) v
-  with_shown None es v = refl
-  with_shown (Some e) es v = refl
+  with_shown o es v = search arith
 
   -- THE BACKINGS of a run
   pub backs_in_turn : (n first : ℕ) (steps : List Made) → Legal f (triples k steps ++ l) → InTurn BackStep (pages_from first n) steps

@@ -1,7 +1,7 @@
 -- THE PAGE that a search finds is the one that the text finds; and where it finds none, the reason of the refusal is the one that the text says.
 use Rattle.std.proofs.Common.{◌≡◌, ℕ, ◌+◌, ◌-◌, ◌<◌, ◌≤◌, nat_le, Bool, true, if◌then◌else◌, Option, None, Some, inl, inr, ap, sym, ◌∙◌, arith, ◌≢◌, zero, suc}
 use Rattle.std.proofs.Common.{false, ◌&&◌, List, [], ◌∷◌, ◌++◌, Ok, Err, refl, true≢false, eq-eqb, ◌⊎◌, subst, ◌==◌}
-use Rattle.pas_large.specs.Telling.{HasNoUsableRun}
+use Rattle.pas_large.specs.Telling.{HasNoUsableRun, IsWholePage, IsUsablePage, IsNamedWhole}
 use Rattle.pas_same_text.{specs.{Indexes.named_first, Runs.is_whole, Searches.{page_or, refusal_by}}, proofs.FreeGrains.{read_unless, keeper, kept_by}}
 use Rattle.pas_same_text.proofs.{GivenBack.{each_at, each_all}, Tests.{and_first, and_second}, CacheLists.{same_kept, kept_at}, Flushes.visible_steps}
 use Rattle.pas_same_text.proofs.{StepMarks.{epoch_stays_by, at_bare, at_unbacked}, SmallActs.{after_with, records_next}, Pieces.{IsPiece, piece_pages}}
@@ -9,12 +9,12 @@ use Rattle.pas_same_text.proofs.{RestingPages.{open_unguarded, had_open, owned_i
 use Rattle.pas_same_text.proofs.Common.{or_right, and_from, false_from_ne_true, cases_eq, false≢true, nat_tests, number_of, deed_word_of, IsValid, IsPage}
 use Rattle.pas_same_text.proofs.Common.{IsDirectoryOf, Directory, Profile, Word, Event, NoRoom, deed_word_of-positive, same_from_deed_word, deed_in, live_in}
 use Rattle.pas_same_text.proofs.Common.{part, word_after, visible, Readings, eligible_bit, free_of_page, IsRightInOnePlace, word_of_deed, deed_has_page}
-use Rattle.pas_same_text.proofs.Common.{deed_of, offered_deed, legal_before, lends_none, IsWholePage, IsUsablePage, IsUsableRun, IsLowestRun, IsNamedWhole}
-use Rattle.pas_same_text.proofs.Common.{Progress, Named, named, records_of, said_of_room, World, HasSame, ArePagesSame, IsSame, IsBetween, IsSearch, each_of}
-use Rattle.pas_same_text.proofs.Common.{is_unowned, is_free, is_empty, is_offered, page_numbers, is_same, is_of, is_kept, large_of, is_usable, named_run}
-use Rattle.pas_same_text.proofs.Common.{is_run, lowest_run, find, Made, right_not_offered, right_in_one_place, FromOffered, ByDeed, IsTrueReason, numbers_from}
-use Rattle.pas_same_text.proofs.Common.{IsThread, some_of, refusal, searched, refuses, Cached, allocating, any_covers, only_within, always_map, AreSearch}
-use Rattle.pas_same_text.proofs.Common.{IsQuiet, IsDeedOrBack, AreQuiet, EventsAt, searching, Record}
+use Rattle.pas_same_text.proofs.Common.{deed_of, offered_deed, legal_before, lends_none, IsUsableRun, IsLowestRun, Progress, Named, named, records_of}
+use Rattle.pas_same_text.proofs.Common.{said_of_room, World, HasSame, ArePagesSame, IsSame, IsBetween, IsSearch, each_of, is_unowned, is_free, is_empty}
+use Rattle.pas_same_text.proofs.Common.{is_offered, page_numbers, is_same, is_of, is_kept, large_of, is_usable, named_run, is_run, lowest_run, find, Made}
+use Rattle.pas_same_text.proofs.Common.{right_not_offered, right_in_one_place, FromOffered, ByDeed, IsTrueReason, numbers_from, IsThread, some_of, refusal}
+use Rattle.pas_same_text.proofs.Common.{searched, refuses, Cached, allocating, any_covers, only_within, always_map, AreSearch, IsQuiet, IsDeedOrBack, AreQuiet}
+use Rattle.pas_same_text.proofs.Common.{EventsAt, searching, Record}
 use Rattle.pas_core.{proofs.Rights.right_not_parked, specs.Fits.IsOfferedFit}
 use Rattle.pas_search.{specs.Telling.IsInHands, proofs.{ForBackEnds.events_quiet, FindingAPage.{by_deed, lowest_offered}}}
 
@@ -47,11 +47,7 @@ module _ (no_fit : Readings → Type 0) (f : Profile) (d : Directory) (k : ℕ) 
   module _ (page : ℕ) (of : IsPage f page) (steps : List Made) (s : IsSearch no_fit f d k p steps w fits) where
     -- a page that serves in the text is offered in the replay, and fits
     serving : (q : ℕ) → IsPage f q → serves q ≡ true → IsOfferedFit no_fit f d p.list q
-    serving q here h = record {
-      of_region = here;
-      offered = sym (s.pages.offered q d s.directory) ∙ and_first (is_offered w d q) (some_of (fits q)) h;
-      fits = λ unfit. false≢true (sym (search (arith, open_unguarded, had_open)) ∙ h);
-    }
+    serving q here h = search (arith, and_first, false≢true, open_unguarded, had_open)
 
     -- THE PAGE that a search found offered is the one that the text finds.
     pub offered_chosen : FromOffered no_fit d page steps → (no_fit (free_of_page p.list page) → ⊥) → searched f w d fits ≡ Ok page
@@ -106,8 +102,7 @@ module _ (f : Profile) (p : Progress) (w : World) (valid : IsValid f) (between :
 
   -- A page that is usable in the replay is usable in the text.
   pub page_usable : (page : ℕ) → IsUsablePage d p.list page → is_usable w heap page ≡ true
-  page_usable page (inl none) = or_left (is_unowned w page) (is_whole w heap page) (unowned_by (deed_in w.events page) (sym (owned_is f p.list w between.legal pages.events page) ∙ none))
-  page_usable page (inr whole) = or_right (is_unowned w page) (is_whole w heap page) (page_whole page whole)
+  page_usable page given = search (arith, or_left, unowned_by, owned_is, or_right, page_whole)
 
   -- ---- A RUN
   pub run_usable : (n first : ℕ) → is_run f w heap n first ≡ true → (first + n ≤ f.pages + 1) × IsUsableRun d n p.list first

@@ -207,8 +207,7 @@ module _ (f : Profile) (keeper : ℕ) (r : Request) (p : Progress) (t : Tried) (
 -- ==== ANY ACT
 
 tried_legal : (f : Profile) (op : Op) (r : Request) (block : Option Block) (p p' : Progress) → AnswersTried f op r block p p' → Legal f p'.list → Legal f p.list
-tried_legal f op r (Some block) p p' is legal = subst (λ (q : Progress). Legal f q.list) is legal
-tried_legal f op r None p p' is legal = legal_before f op.actor is.0.steps p.list (subst (λ (q : Progress). Legal f q.list) is.2 legal)
+tried_legal f op r block p p' is legal = search (arith, legal_before)
 
 thread_no_keeper : (threads : ℕ) (f : Profile) (k : ℕ) → IsThreadOf threads k → IsKeeperOf threads f k → ⊥
 thread_no_keeper threads f k own keeps = omega (arith, own.1, keeps.0)

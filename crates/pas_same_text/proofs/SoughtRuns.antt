@@ -2,19 +2,19 @@
 -- that the text tries the same runs.
 use Rattle.std.proofs.Common.{◌≡◌, ◌≢◌, ℕ, ◌+◌, ◌*◌, ◌/◌, ◌≤◌, ◌==◌, Bool, true, false, if◌then◌else◌, List, [], ◌∷◌, ◌++◌, ◌⊎◌, inl, inr, refl, ap, sym, ◌∙◌}
 use Rattle.std.proofs.Common.{subst, arith, eqb-true, ◌<◌, nat_le, not, ◌&&◌, ◌||◌, Option, Some, eq-eqb}
-use Rattle.pas_core.proofs.{Rights.{free_without_deed, DeedFits, no_deed}, OneActor.deed_none}
+use Rattle.pas_core.proofs.{Rights.{free_without_deed, DeedFits, no_deed, spot_of}, OneActor.deed_none, Deeds.deed_kept}
 use Rattle.pas_same_text.proofs.Common.{IsLone, never_fails, fewer, once_lone, false≢true, eqb-false, false_from_ne_true, fun_ext, and-false, AllByRecursion}
 use Rattle.pas_same_text.proofs.Common.{IsValid, IsDirectoryOf, number_of, Directory, Profile, Word, Event, triple, triples, target, Only, Once, Always, View}
 use Rattle.pas_same_text.proofs.Common.{holds, known_deed, Agreed, events_by, Whole, part, word_after, Legal, visible, Made, Step, Look, Deed, part_of_own}
-use Rattle.pas_same_text.proofs.Common.{always_map, deed_has_page, deed_kept, deed_of, backed_of, known_is, is_with, spot_of, spotted, deeds_known, lends_none}
-use Rattle.pas_same_text.proofs.Common.{IsInRun, ReturnsDuly, DeedsRise, MayFind, IsUsableRun, MadeOf, span_in, seeking, SoughtNone, large_of, is_usable}
-use Rattle.pas_same_text.proofs.Common.{is_run, serves_pages, deed_word_of-positive, all_map, Run, deed_in, backed_in, word_of_deed, runs, one_backed}
-use Rattle.pas_same_text.proofs.Common.{agreed_steps, Progress, World, are_bare, raises, raises_from, IsSame, HasSame, IsBetween, free_bit, page_numbers}
-use Rattle.pas_same_text.proofs.{Common.{each_of, is_none, is_same, is_free, is_empty, is_kept}, StepMarks.backed_stays, FreeGrains.{free_unheld, bit_free}}
-use Rattle.pas_same_text.proofs.{FreeGrains.keeper, KeepersRest.{bare_since, bare_events}, Flushes.visible_steps, GivenBack.each_all, SearchedPages.run_usable}
-use Rattle.pas_same_text.proofs.{SearchedPages.usable_run, Pieces.has_same, RunsFound.{shown, shown_events, shown_rest, with_deed, deeded, deeds_of}}
-use Rattle.pas_same_text.proofs.{RunsFound.{deeded_falls, deeded_events, deeds_live}, RestingPages.{open_from, is_open, owned_is, unowned_by}, RaiseWalk.below}
-use Rattle.pas_same_text.proofs.RaiseWalk.{below_all, IsOfRun, IsWalked, found_text, none_text}
+use Rattle.pas_same_text.proofs.Common.{always_map, deed_has_page, deed_of, backed_of, known_is, spotted, deeds_known, lends_none, IsInRun, ReturnsDuly}
+use Rattle.pas_same_text.proofs.Common.{DeedsRise, MayFind, IsUsableRun, MadeOf, span_in, seeking, SoughtNone, large_of, is_usable, is_run, serves_pages}
+use Rattle.pas_same_text.proofs.Common.{deed_word_of-positive, all_map, Run, deed_in, backed_in, word_of_deed, runs, one_backed, agreed_steps, Progress, World}
+use Rattle.pas_same_text.proofs.Common.{are_bare, raises, raises_from, IsSame, HasSame, IsBetween, free_bit, page_numbers, each_of, is_none, is_same, is_free}
+use Rattle.pas_same_text.proofs.{Common.{is_empty, is_kept}, StepMarks.backed_stays, FreeGrains.{free_unheld, bit_free, keeper}, KeepersRest.bare_since}
+use Rattle.pas_same_text.proofs.{KeepersRest.bare_events, Flushes.visible_steps, GivenBack.each_all, SearchedPages.{run_usable, usable_run}, Pieces.has_same}
+use Rattle.pas_same_text.proofs.RunsFound.{shown, shown_events, shown_rest, with_deed, deeded, deeds_of, deeded_falls, deeded_events, deeds_live}
+use Rattle.pas_same_text.proofs.{RestingPages.{open_from, is_open, owned_is, unowned_by}, RaiseWalk.{below, below_all, IsOfRun, IsWalked, found_text}}
+use Rattle.pas_same_text.proofs.RaiseWalk.{none_text}
 use Rattle.pas_guard.specs.{Seeks.{HasSpan, SoughtRun}, Evidence.{HoldsRunWhole, OuterBackedHere, IsBad, OuterFailsHere, HasFailedOnce}}
 use Rattle.pas_large.{specs.Evidence.{AllUsable, DeedsOf}, proofs.Told.{run_was, bad_run}}
 
@@ -85,8 +85,7 @@ module _ (f : Profile) (k heap n : ℕ) (l : Whole) (valid : IsValid f) (of : Is
   module _ (Chosen Good : ℕ → Type 0) (each : (first : ℕ) → Chosen first → Good first) where
     by_answer : (t : Bool) (q : ℕ) (qs : List ℕ) → (t ≡ true → IsMadeOf n l Good q) → AllByRecursion (IsMadeOf n l Good) qs
         → AllByRecursion (IsMadeOf n l Good) (if t then q ∷ qs else qs)
-    by_answer true q qs is rest = (is refl, rest)
-    by_answer false q qs is rest = rest
+    by_answer t q qs is rest = search arith
 
     -- Each page that got its deed from a search had none before, and is of a chosen run.
     made_pages : (xs : List Made) → Legal f (triples k xs ++ l) → DeedsOf d (n + 2) Chosen xs → AllByRecursion (IsMadeOf n l Good) (deeded xs)
@@ -166,14 +165,12 @@ module _ {f : Profile} {k heap n : ℕ} {p : Progress} {w : World} {xs : List Ma
       all_true large _ _ _ (false_from_ne_true (is_kept w page) (λ kept.
           let by = keeper f p w s.valid s.between old page kept in
           let at = spotted f p.list s.between.legal page in
-          false≢true (sym (ap (is_with by.0) (no_deed (spot_of p.list page) (subst (DeedFits (spot_of p.list page)) made.1 at.deed)))
-          ∙ (sym (at.has by.0) ∙ by.1))))
+          false≢true (cc (no_deed (spot_of p.list page) (subst (DeedFits (spot_of p.list page)) made.1 at.deed), at.has by.0))))
           (open_from f p w s.valid s.between old large page 0 (omega arith) refl (unowned_free page 0 made.1 (omega arith)))
           (each_all 256 0 (is_free w page) (λ b low high. bit_free f p w s.valid s.between old page b high (unowned_free page b made.1 high))),
       unowned_by (deed_in w.events page) (sym (owned_is f p.list w s.between.legal s.same.pages.events page) ∙ made.1),
     )
-    | inr still ↦ ap (λ (o : Option Directory). usable_in large o (mine qs) page)
-        (ap (λ (es : List Event). deed_in es page) (shown_events (deeds_of k large qs) w) ∙ still) ∙ same_use (deed_in w.events page) qs page
+    | inr still ↦ simp (shown_events, still, same_use)
   ]
 
   -- ---- runs in words and in the text

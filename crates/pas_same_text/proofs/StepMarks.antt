@@ -207,8 +207,7 @@ module _ (k : ℕ) where
   seeks_unbacked q (m ∷ xs) kinds = search (arith, true≢false, seeks_unbacked q xs kinds.1)
 
   deed_there : (d d' : Directory) (page q : ℕ) (e : Event) → IsAtPage k d page e → e ≡ Event.Deed k q d' → page ≡ q
-  deed_there d d' page q e IsAtPage.Deeds is = cc
-  deed_there d d' page q e IsAtPage.Backs is = let bad : Event.Back k page ≡ Event.Deed k q d' = is in cc
+  deed_there d d' page q e given is = search arith
 
   -- They make no deed of another.
   pub at_bare : (d : Directory) (page q : ℕ) (xs : List Made) → page ≢ q → EventsAt d page xs → Always (MakesNoDeedHere q) xs

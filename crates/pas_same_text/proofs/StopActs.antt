@@ -259,8 +259,7 @@ module _ (f : Profile) (k : ℕ) (p : Progress) (w : World) (flushed stopped : L
 
   -- ---- grains that an actor holds then
   held_at : (j g : ℕ) (t : Bool) → (j == k) ≡ t → any_covers (if t then c' else p.caches j).locals g ≡ true → any_covers (p.caches j).locals g ≡ true
-  held_at j g true e held = absurd (false≢true (sym (ap (λ (d : Cached). any_covers d.locals g) cache) ∙ held))
-  held_at j g false e held = held
+  held_at j g t e held = search (arith, false≢true)
 
   held_before : (j g : ℕ) → holds (part j p'.list) g ≡ true → holds (part j p.list) g ≡ true
   held_before j g held = held_still f p p' before after refl j g (held_at j g (j == k) refl) held
@@ -278,8 +277,7 @@ module _ (f : Profile) (k : ℕ) (p : Progress) (w : World) (flushed stopped : L
       let held : holds (part k p.list) g ≡ true = cached_held f p before k g thread (in_cache g covered) in
       free_left f p'.list valid after.legal g
       (λ j now. let is_own : j ≡ k = eqb-true j k (one_holder f p.list valid before.legal j k g (held_before j g now) held) in (search (arith, held_by, never_both)))
-      (λ a b lives of_it. covered_not_held f _ valid before.legal g a b (ap (λ (es : List Event). live_in es a) (sym same.pages.events)
-      ∙ fewer.lives a b (ap (λ (es : List Event). live_in es a) has.events ∙ lives)) of_it k held)
+      (λ a b lives of_it. covered_not_held f _ valid before.legal g a b (cc (fewer.lives a b (ap (λ (es : List Event). live_in es a) has.events ∙ lives))) of_it k held)
 
   marked_room : (q : ℕ) (d : Directory) → IsDirectoryOf f d → is_of v d q ≡ true → (o : IsOneOf f (part k p.list) q stopped c.locals)
       → HasMember o.own.starts ⊎ ReadsRoom q (home_of o.own) stopped → is_open v d q ≡ true

@@ -2,7 +2,7 @@
 -- on, and why a page is offered.
 use Rattle.std.proofs.Common.{◌≡◌, ℕ, ◌+◌, ◌-◌, ◌≤◌, ◌==◌, Bool, true, false, ◌&&◌, ◌||◌, cond, List, [], ◌∷◌, ◌++◌, length, map, refl, ap, sym, ◌∙◌, subst}
 use Rattle.std.proofs.Common.{arith, eq-eqb, eqb-true, zero, suc, ◌/◌, ◌%◌, ◌<◌, ◌⊎◌, inl, inr, MatchBool}
-use Rattle.pas_steps.{proofs.Past.once_earlier, specs.Kinds.Parking}
+use Rattle.pas_steps.proofs.Past.{once_earlier}
 use Rattle.pas_cache.{specs.{Locals.{HasOneEach, is_for as is_for_slots}, Changes.StopsAll}, proofs.Resting.counted}
 use Rattle.pas_same_text.{specs.State.with_cache, proofs.CacheLists.{all_locals, own_with, many_with, with_own, for_same, cached_any, any_cached}}
 use Rattle.pas_same_text.proofs.{GivenBack.{Returns, OnlyHints, minded_last, all_only_hints, returns_nothing, returns_then}, LowerActs.back_hints}
@@ -11,7 +11,7 @@ use Rattle.pas_same_text.proofs.Common.{list_any, count_by, has_bit, HasMember, 
 use Rattle.pas_same_text.proofs.Common.{Slots, Local, Cache, World, each, cache_in, cache_of, locals_of, set_locals, is_for, others, gives_up, AreSameLocals}
 use Rattle.pas_same_text.proofs.Common.{hints_both, Mask4, triples, Whole, word_after, Legal, Once, Always, usable_by_kind, Kinds, Only, apart, Taking}
 use Rattle.pas_same_text.proofs.Common.{LookFree, Putting, Made, Look, free_stays, LeaveSteps, BackSteps, words, looks, HintsEmpty, leave_due, looks_only}
-use Rattle.pas_same_text.proofs.Common.{leave_returns, return_returns, puts_kinds, start_of, home_of, StopStepsAt, LeavesWhere, start_below, Park, made}
+use Rattle.pas_same_text.proofs.Common.{leave_returns, return_returns, puts_kinds, start_of, home_of, StopStepsAt, LeavesWhere, start_below}
 use Rattle.pas_rights.specs.{Leaves.EndsLeave, Looks.{HasUsable, HasNoUsable}}
 use Rattle.pas_segregated.specs.Stops.{AreGrains}
 
@@ -170,18 +170,7 @@ end_room : (usable all_free : Bool) (page q : ℕ) (d : Directory) (free : Mask4
     → EndsLeave usable page d all_free after → IsMarked q after → ReadsRoom page d (after ++ looks page (words free) 4)
 end_room true all_free page q d free after u h marked = room_later page d after (looks page (words free) 4) (search (arith, once_map, look_at))
 end_room false all_free page q d free after none h marked =
-    let park : List Made = made (Park page) h.parked ∷ [] in
-    let later : List Made = looks page (words h.later) 4 in
-    elim (marked_parts q h.after (later ++ park) (subst (IsMarked q) h.steps_are marked)) [
-      | inl first ↦
-          let room : ReadsRoom page d (looks page (words h.later) 4) = search (arith, once_map, look_at) in
-          let whole = room_later page d h.after (later ++ park) (room_earlier page d later park room) in
-          room_earlier page d after (looks page (words free) 4) (subst (ReadsRoom page d) (sym h.steps_are) whole)
-      | inr rest ↦ elim (marked_parts q later park rest) [
-        | inl look ↦ absurd (looks_offer_none page q (words h.later) look)
-        | inr parks ↦ absurd (none_marked (Parking ∷ []) refl q park (refl, tt) parks)
-      ]
-    ]
+    search (arith, marked_parts, once_map, look_at, room_later, room_earlier, looks_offer_none, none_marked)
 
 -- Of a page that a leave marks, it read room.
 pub leave_room : (page q : ℕ) (d : Directory) (steps : List Made) → LeaveSteps page d steps → IsMarked q steps → ReadsRoom page d steps
@@ -227,8 +216,7 @@ one_marked s q steps is h marked = subst (IsMarkedBy s q) (sym h.steps_are) (eli
 ])
 
 left_hints : (s : Slots) (right : Bool) (steps : List Made) → LeavesWhere right s.page (home_of s) steps → Always HintsEmpty steps
-left_hints s true steps h = hints_of steps (leave_due s.page (home_of s) steps h)
-left_hints s false steps h = subst (Always HintsEmpty) (sym h) tt
+left_hints s right steps h = search (arith, hints_of, leave_due)
 
 -- The stop of one local allocator hints only pages that it read as backed and empty.
 pub one_hints : (s : Slots) (steps : List Made) → StopStepsAt (home_of s) s steps → Always HintsEmpty steps

@@ -6,13 +6,13 @@ use Rattle.pas_search.{specs.Choices.TookChosen, proofs.LoneSteps.shown_same}
 use Rattle.pas_partial.specs.Rows.{IsInRow, rows}
 use Rattle.pas_segregated.specs.Takes.{slot_within, TookSlots, takes_after, takes_since}
 use Rattle.pas_same_text.proofs.Common.{free_same, or-false, has_bit, is_set, Mask4, class_grains, IsSlotStart, Profile, Word, triples, free_word_at, Readings}
-use Rattle.pas_same_text.proofs.Common.{Allowed, made, target, kind_of, is_in, Once, Always, Whole, word_after, Legal, part, Made, Step, part_of_own}
-use Rattle.pas_same_text.proofs.Common.{free_of_page, LendsNone, lends_none, AreSearch, searching, IsReturnOf, ReturnsDuly, KeepsMarks, IsFreeSlot, IsLowestRow}
-use Rattle.pas_same_text.proofs.Common.{free_bit, false≢true, cases_eq, false_from_ne_true, none_of_zero, number_of, View, holds, has_right, Deed, Take}
-use Rattle.pas_same_text.proofs.{Common.{TakeRight, Offer, Park, Unpark, is_with, spotted, takes, word_take, words}, Tests.{and_first, and_second}}
-use Rattle.pas_steps.specs.{Effects.in_mask, Kinds.lending, Views.{Gets, Stays, grain_move, held_after, Way, Rests, ByDeed, FromOffer, FromParked, ToParked}}
-use Rattle.pas_steps.specs.Views.{way, had_after}
-use Rattle.pas_core.proofs.Rights.{Spot, Suits, IsSpotted, step_suits}
+use Rattle.pas_same_text.proofs.Common.{made, target, kind_of, is_in, Once, Always, Whole, word_after, Legal, part, Made, Step, part_of_own, free_of_page}
+use Rattle.pas_same_text.proofs.Common.{LendsNone, lends_none, AreSearch, searching, IsReturnOf, ReturnsDuly, KeepsMarks, IsFreeSlot, IsLowestRow, free_bit}
+use Rattle.pas_same_text.proofs.Common.{false≢true, cases_eq, false_from_ne_true, none_of_zero, number_of, View, holds, has_right, Deed, Take, TakeRight, Offer}
+use Rattle.pas_same_text.proofs.{Common.{Park, Unpark, spotted, takes, word_take, words}, Tests.{and_first, and_second}}
+use Rattle.pas_steps.specs.{Allowed.Allowed, Effects.in_mask, Kinds.lending, Views.{Gets, Stays, grain_move, held_after, Way, Rests, ByDeed, FromOffer}}
+use Rattle.pas_steps.specs.Views.{FromParked, ToParked, way, had_after}
+use Rattle.pas_core.proofs.Rights.{is_with, Spot, Suits, IsSpotted, step_suits}
 
 -- ---- the same readings show the same slots and rows
 free_slot_as : (class : ℕ) (r fair : Readings) → ((b : ℕ) → b < 256 → r b ≡ fair b) → (s : ℕ) → IsFreeSlot class r s → IsFreeSlot class fair s
@@ -47,12 +47,10 @@ module _ (f : Profile) (k : ℕ) (l : Whole) (class page : ℕ) (searched : List
 -- ---- the right of a page that is neither offered nor parked stays
 module _ (page : ℕ) where
   kept_right : (x : Way) (t had : Bool) → (t ≡ true → ⊥) → had ≡ true → had_after (if t then x else Rests) had ≡ true
-  kept_right x true had never has = absurd (never refl)
-  kept_right x false had never has = has
+  kept_right x t had never has = search arith
 
   got_right : (x : Way) (t had : Bool) → had_after x had ≡ true → had ≡ true → had_after (if t then x else Rests) had ≡ true
-  got_right x true had gets has = gets
-  got_right x false had gets has = has
+  got_right x t had gets has = search arith
 
   never_left : (q : ℕ) (s : Step) → (s ≡ Unpark page → ⊥) → IsReturnOf q s → (IsReturnOf page s → s ≡ Unpark page) → (q == page) ≡ true → ⊥
   never_left q s other r marks same = other (marks (subst (λ (x : ℕ). IsReturnOf x s) (eqb-true q page same) r))
@@ -81,8 +79,7 @@ module _ (f : Profile) (k page g : ℕ) (of : g / 256 ≡ page) (v ts before : L
   IsTakenAfter s a = (had_after (way s a page) (has_right v page) ≡ true) × (holds (takes_after page s a ts) g ≡ true)
 
   got_or_held : (x held : Bool) → (x ≡ false → held ≡ true) → held_after (if x then Gets else Stays) held ≡ true
-  got_or_held true held h = refl
-  got_or_held false held h = h refl
+  got_or_held x held h = search arith
 
   -- A grain that a take takes was taken so.
   took : (q word mask a : ℕ) → has_right v q ≡ true → (holds before g ≡ true → IsTakenSo) → (x : Bool) → (in_mask q word mask g && has_bit a (g % 64)) ≡ x
@@ -206,7 +203,4 @@ module _ (f : Profile) (k : ℕ) (l : Whole) (class page : ℕ) (searched : List
 
   -- What a search took of an exclusive page are its slots that were free before the search.
   pub exclusive_free : (s : ℕ) → IsTrue (is_set starts s) ↔ IsFreeSlot class (free_of_page l page) s
-  exclusive_free s = (
-    λ set. let both = (took.are s).0 set in (both.0, λ b low high. sym (slot_answer s b both.0 high) ∙ both.1 b low high),
-    λ both. (took.are s).1 (both.0, λ b low high. slot_answer s b both.0 high ∙ both.1 b low high),
-  )
+  exclusive_free s = grind (arith, slot_answer)

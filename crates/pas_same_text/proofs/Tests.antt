@@ -15,8 +15,7 @@ on_page page b small = omega (arith, small)
 -- ---- lists
 -- Of two tests that both hold, the first holds.
 pub and_first : (x y : Bool) → (x && y) ≡ true → x ≡ true
-and_first true y h = refl
-and_first false y h = h
+and_first x y h = search arith
 
 -- Of two tests that both hold, the second holds.
 pub and_second : (x y : Bool) → (x && y) ≡ true → y ≡ true
@@ -42,8 +41,7 @@ pub record IsFound (numbers : List ℕ) (p : ℕ → Bool) : Type 0 where
   pub so : p number ≡ true
 
 found_at : (p : ℕ → Bool) (n : ℕ) (more : List ℕ) → (list_any p more ≡ true → IsFound more p) → (p n ≡ true) ⊎ (list_any p more ≡ true) → IsFound (n ∷ more) p
-found_at p n more rest (inl so) = record { number = n; there = or_left (n == n) (has_number more n) (eqb_itself n); so = so }
-found_at p n more rest (inr so) = let o = rest so in record { number = o.number; there = or_right (n == o.number) _ o.there; so = o.so }
+found_at p n more rest given = search (arith, or_left, eqb_itself, or_right)
 
 -- Where some number of a list passes a test, one of its numbers is found that does.
 pub found : (p : ℕ → Bool) (numbers : List ℕ) → list_any p numbers ≡ true → IsFound numbers p

@@ -33,8 +33,7 @@ deed_usable f es p d own address b g false e run none lives of usable is = usabl
 
 ended_usable : (es : List Event) (own : Directory) (address : ℕ) (b : Live) (g : ℕ) (t : Bool) → (if t then None else live_in es address) ≡ Some b
     → IsPartOf g address b → AreBlocksUsable es → deed_in es (g / 256) ≡ Some own → usable_by_kind own.kind (g % 256) ≡ true
-ended_usable es own address b g true lives of usable is = absurd (none-some b lives)
-ended_usable es own address b g false lives of usable is = usable.usable address b lives g of own is
+ended_usable es own address b g t lives of usable is = search (arith, none-some)
 
 next_usable : (f : Profile) (e : Event) (es : List Event) → Run f (e ∷ es) → GivesUsably es e → AreBlocksUsable es → AreBlocksUsable (e ∷ es)
 next_usable f e es run give usable = search (arith, deed_usable, eqb-true, ended_usable)
@@ -93,8 +92,7 @@ unbacks_give k epoch (p ∷ pairs) = search (arith, unbacks_give k epoch pairs)
 
 -- ---- a request
 preparing_none : (d : Directory) (e : Event) → IsPreparing d e → IsNoGive e
-preparing_none d e (IsPreparing.Deeds k page) = tt
-preparing_none d e (IsPreparing.Backs k page) = tt
+preparing_none d e given = search arith
 
 deed_none : (d : Directory) (e : Event) → IsDeedOf d e → IsNoGive e
 deed_none d e (IsDeedOf.Deeds k page) = tt

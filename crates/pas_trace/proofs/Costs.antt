@@ -1,6 +1,5 @@
 -- The cost of an allocation on either side of 2,048 bytes.
-use Rattle.std.proofs.Common.{◌≡◌, ◌≢◌, ◌∙◌, ℕ, ◌+◌, ◌<◌, ◌≤◌, ◌==◌, Bool, true, false, if◌then◌else◌, refl, ap, sym, arith, inl, inr, le-leb, ne_eqb}
-use Rattle.std.proofs.lemmas.Bool.{cases_lt, lt-leb}
+use Rattle.std.proofs.{Common.{◌≡◌, ◌≢◌, ℕ, ◌+◌, ◌<◌, ◌≤◌, ◌==◌, Bool, false, if◌then◌else◌, ap, sym, arith, le-leb, ne_eqb}, lemmas.Bool.{cases_lt, lt-leb}}
 use Rattle.pas_trace.specs.Reasons.{cost_of_size, cost_of_request, pages_for}
 
 -- An allocation of at most 2,048 bytes may make two records.
@@ -21,8 +20,7 @@ small_request guard size within = sym (ap (λ t. if t then 2 else (if guard == 0
 
 large_request : (guard size : ℕ) (none : Bool) → 2048 < size → (guard == 0) ≡ none
     → (if none then 1 + pages_for size else 3 + pages_for size) ≡ cost_of_request guard size
-large_request guard size none beyond is = sym (ap (λ t. if t then 2 else (if guard == 0 then 1 + pages_for size else 3 + pages_for size))
-    (lt-leb size 2048 beyond) ∙ ap (λ t. if t then 1 + pages_for size else 3 + pages_for size) is)
+large_request guard size none beyond is = cc (lt-leb size 2048 beyond)
 
 -- In an unguarded trace a request costs what an allocation does.
 pub unguarded_cost : (guard size : ℕ) → guard ≡ 0 → cost_of_size size ≡ cost_of_request guard size
@@ -34,14 +32,8 @@ guarded_cost guard size beyond some =
     omega (arith, large_cost size beyond, large_request guard size false beyond (ne_eqb guard 0 some))
 
 two_least : (none : Bool) (n : ℕ) → 1 + n ≤ (if none then 1 + n else 3 + n)
-two_least true n = omega arith
-two_least false n = omega arith
+two_least none n = search arith
 
 -- no request costs less there than elsewhere
 pub least_cost : (guard size : ℕ) → cost_of_size size ≤ cost_of_request guard size
-least_cost guard size = elim (cases_lt 2048 size) [
-  | inl beyond ↦
-      let least = two_least (guard == 0) (pages_for size) in
-      omega (arith, large_cost size beyond, large_request guard size (guard == 0) beyond refl, least)
-  | inr within ↦ omega (arith, small_cost size within, small_request guard size within)
-]
+least_cost guard size = search (arith, cases_lt, two_least, large_cost, large_request, small_cost, small_request)

@@ -12,8 +12,7 @@ value-grows v [] = omega arith
 value-grows v (b ∷ bs) = omega (arith, value-grows (10 * v + (b - 48)) bs)
 
 pub if-false : (x y : Bool) (o : Option ℕ) → y ≡ false → (if x && y then o else None) ≡ None
-if-false true y o e = rw e refl
-if-false false y o e = refl
+if-false x y o e = search arith
 
 -- A byte from 48 to 57 is a digit.
 pub digit-is : (b : ℕ) → 48 ≤ b → b ≤ 57 → is_digit b ≡ true
@@ -43,12 +42,10 @@ hex-stop v b bs e = rw e refl
 
 -- what the code reads of a digit
 pub none-tested : (t : Bool) (x : ℕ) → None ≡ (if t then Some x else None) → t ≡ false
-none-tested true x e = cc
-none-tested false x e = refl
+none-tested t x e = search arith
 
 pub some-tested : (t : Bool) (x y : ℕ) → Some y ≡ (if t then Some x else None) → (t ≡ true) × (y ≡ x)
-some-tested true x y e = (refl, cc)
-some-tested false x y e = cc
+some-tested t x y e = search arith
 
 -- the value stays small
 pub hex-room : (v i : ℕ) → v < 16 ^ i → i ≤ 7 → v < 268435456

@@ -1,8 +1,8 @@
 -- The operations of items follow one another soundly, and may make as many records as the items.
 use Rattle.std.proofs.{lemmas.{Bool.{lt-leb, and_parts, cases_lt, false≢true}, List.{length-map, get_or_append_left}}, Common.{◌≡◌, ℕ, ◌≢◌, ◌+◌, ◌*◌, ◌%◌, ◌<◌}}
-use Rattle.std.proofs.Common.{◌≤◌, ◌==◌, nat_le, ◌||◌, ◌&&◌, not, Bool, true, false, if◌then◌else◌, List, [], ◌∷◌, ◌++◌, length, Option, Some, None, refl, ap}
-use Rattle.std.proofs.Common.{sym, ◌∙◌, subst, arith, append_assoc, length-append, MatchOption, eq-eqb, ne_eqb, leb-true, leb-false, ltb-true, append-nil, zero}
-use Rattle.std.proofs.{Common.{suc, slice_index, inl, inr, map, eqb-true}, Math.{Bool.and-false, Seq.get_or-append_seam}}
+use Rattle.std.proofs.Common.{◌≤◌, ◌==◌, ◌||◌, ◌&&◌, not, Bool, true, false, if◌then◌else◌, List, [], ◌∷◌, ◌++◌, length, Option, Some, None, refl, ap, sym, ◌∙◌}
+use Rattle.std.proofs.Common.{subst, arith, append_assoc, length-append, MatchOption, eq-eqb, ne_eqb, leb-true, leb-false, ltb-true, append-nil, zero, suc}
+use Rattle.std.proofs.{Common.{slice_index, inl, inr, map, eqb-true}, Math.{Bool.and-false, Seq.get_or-append_seam}}
 use Rattle.pas_profile.specs.{Profiles.{IsValid, IsAdmitted}, declared.profile.Profile.Profile}
 use Rattle.pas_trace.specs.Reasons.{guard_in, is_sampled, large_requests, is_guarded, cost_of_size, cost_of_request, is_named, heap_of, actor_of, cost_of}
 use Rattle.pas_trace.specs.Reasons.{costs_of, cost_of_wish, records_of_chore, reason_of, actors_by, is_phase, is_named_now, thread_of, is_operation}
@@ -10,11 +10,11 @@ use Rattle.pas_trace.specs.{Reasons.operations_in, Plans.{operation, operation_o
 use Rattle.pas_trace.specs.Plans.{phases_in, phases_after, line_of_newest, own_costs, IsPlanOf, phases_of, ops_of, shared_in, bound_of, bounds_upto, bounds_of}
 use Rattle.pas_trace.specs.{Asked.{request_in, keeper_in, freed_in}, EveryPhase.{FreesItsOwn, FreeTheirOwn}, Wishes.is_large, EveryPlan.{all_ops, IsThread}}
 use Rattle.pas_trace.specs.EveryPlan.{is_asked, asked_with, asked_after, asked_by, AreBelow, AreSound, AreKept, records_of_what, records_of_ops, own_records}
-use Rattle.pas_trace.specs.{EveryPlan.{kept_records, operations_of, IsSound}, declared.item.{Request.Request, Item.{Item, TheVariants.{Guards, NextPhase}}}}
-use Rattle.pas_trace.specs.declared.item.{Item.TheVariants.{Operates, Scavenges}, Wish.{Wish, TheVariants.{Asks, Frees, FreesSized, FreesRaw, FreesRawSized}}}
-use Rattle.pas_trace.{specs.declared.{item.Wish.TheVariants.{Remakes, Flushes, Stops}, plan.{Chore.Chore, Op.Op, Plan.Plan}}, proofs.ParsedItems.IsInRange}
-use Rattle.pas_trace.proofs.{ParsedItems.{AreChecked, parts_of}, Rooms.room_named, Costs.{unguarded_cost, guarded_cost, least_cost}, WordLines.lines_few}
-use Rattle.pas_trace.proofs.{Telling.bound-thread, PassedChecks.{own_passed, guard_passed, aligns, is_not, held_both, counts_within}}
+use Rattle.pas_trace.specs.{EveryPlan.{kept_records, operations_of, IsSound}, declared.item.{Request.Request, Item.{Item, TheVariants.{NextPhase, Operates}}}}
+use Rattle.pas_trace.specs.declared.item.{Item.TheVariants.Scavenges, Wish.{Wish, TheVariants.{Asks, Frees, FreesSized, FreesRaw, FreesRawSized, Remakes}}}
+use Rattle.pas_trace.{specs.declared.{item.Wish.TheVariants.{Flushes, Stops}, plan.{Chore.Chore, Op.Op, Plan.Plan}}, proofs.ParsedItems.{IsInRange, AreChecked}}
+use Rattle.pas_trace.proofs.{ParsedItems.parts_of, Rooms.room_named, Costs.{unguarded_cost, guarded_cost, least_cost}, WordLines.lines_few}
+use Rattle.pas_trace.proofs.{Telling.bound-thread, PassedChecks.{own_passed, guard_passed, is_not, held_both, counts_within}}
 
 -- ---- the operations of items in one list: those before, and that of the newest item, where it is one
 abbrev pub ops_in : Profile → List Item → List Op
@@ -71,17 +71,12 @@ all_heaps f (i ∷ earlier) checked = item_heaps f i earlier checked.0.passes (a
 request_sound : (f : Profile) (t n h s a : ℕ) (guarded : Bool) (line : ℕ) (asked : List ℕ) → IsThread f t → IsAdmitted f s a h → is_asked asked n ≡ false
     → (guarded ≡ true → 2048 < s)
     → AreSound f asked (operation line t (request_kept (if guarded then Some (f.threads + t) else None) n h s a) ∷ [])
-request_sound f t n h s a true line asked thread admitted fresh large = (thread, (admitted, fresh, large refl), tt)
-request_sound f t n h s a false line asked thread admitted fresh large = (thread, (admitted, fresh), tt)
+request_sound f t n h s a guarded line asked thread admitted fresh large = search arith
 
 item_sound : (f : Profile) (shared : ℕ) (i : Item) (earlier : List Item) (asked : List ℕ) → reason_of f earlier i ≡ None → IsInRange i → AreNames asked earlier
     → IsValid f → HaveHeaps f earlier → AreSound (sharing f shared) asked (new_ops f i earlier)
 item_sound f shared (Operates t (Asks n h s a)) earlier asked passed range names valid homes =
-    let held = own_passed f earlier t (Asks n h s a) passed in
-    let size = leb-true s (4096 * f.pages) held.size in
-    request_sound (sharing f shared) t n h s a (is_guarded earlier (Operates t (Asks n h s a))) (line_of_newest (Operates t (Asks n h s a) ∷ earlier)) asked held.thread
-    (record { within = omega (arith, size); aligned = aligns a held.align; of_profile = ltb-true h f.heaps held.heap }) (names n ∙ is_not (is_named earlier n) held.fresh)
-    (λ guarded. leb-false s 2048 (is_not (nat_le s 2048) (and_parts (is_large s) (is_sampled (guard_in earlier) (large_requests t earlier + 1)) guarded).0))
+    search (arith, own_passed, leb-true, request_sound, ltb-true, is_not, leb-false, and_parts)
 item_sound f shared (Operates t (Frees n)) earlier asked passed range names valid homes =
     let held = own_passed f earlier t (Frees n) passed in (held.thread, (names n ∙ held.known, tt), tt)
 item_sound f shared (Operates t (FreesSized n s a)) earlier asked passed range names valid homes =
@@ -94,9 +89,7 @@ item_sound f shared (Operates t (FreesRawSized b n s a)) earlier asked passed ra
     let held = own_passed f earlier t (FreesRawSized b n s a) passed in
     (held.thread, (range, room_named f s a valid (omega (arith, leb-true s (4096 * f.pages) held.size))), tt)
 item_sound f shared (Operates t (Remakes n o s a)) earlier asked passed range names valid homes =
-    let held = own_passed f earlier t (Remakes n o s a) passed in
-    let size = leb-true s (4096 * f.pages) held.size in
-    (held.thread, (record { within = omega (arith, size); aligned = aligns a held.align; of_profile = homes o held.known }, names n ∙ is_not (is_named earlier n) held.fresh, names o ∙ held.known), tt)
+    search (arith, own_passed, leb-true, is_not)
 item_sound f shared (Operates t Flushes) earlier asked passed range names valid homes = ((own_passed f earlier t Flushes passed).thread, tt, tt)
 item_sound f shared (Operates t Stops) earlier asked passed range names valid homes = ((own_passed f earlier t Stops passed).thread, tt, tt)
 item_sound f shared (Scavenges (Chore.Tick e)) earlier asked passed range names valid homes = (refl, range, tt)
@@ -106,8 +99,7 @@ item_sound f shared i earlier asked passed range names valid homes = tt
 
 -- A chore asks for no name of the trace.
 asks_none : (c : Chore) (asked : List ℕ) → asked_after (what_of_chore c) asked ≡ asked
-asks_none (Chore.Tick e) asked = refl
-asks_none c asked = refl
+asks_none c asked = search arith
 
 pub record AreFollowing (f : Profile) (shared : ℕ) (items : List Item) : Type 0 where
   pub sound : AreSound (sharing f shared) [] (ops_in f items)
@@ -127,13 +119,11 @@ following f shared (i ∷ earlier) valid checked =
 
 -- ---- the names that they ask for are below a limit above all of them
 or_right : (s t : Bool) → t ≡ true → s || t ≡ true
-or_right true t is = refl
-or_right false t is = is
+or_right s t is = search arith
 
 -- a name that was asked for stays so
 pub kept_with : (request : Option Request) (asked : List ℕ) (n : ℕ) → is_asked asked n ≡ true → is_asked (asked_with request asked) n ≡ true
-kept_with None asked n is = is
-kept_with (Some request) asked n is = or_right (request.name == n) (is_asked asked n) is
+kept_with request asked n is = search (arith, or_right)
 
 kept_by : (asked : List ℕ) (ops : List Op) (n : ℕ) → is_asked asked n ≡ true → is_asked (asked_by asked ops) n ≡ true
 kept_by asked [] n is = is
@@ -162,28 +152,23 @@ own_both f k (x ∷ xs) ys = omega (arith, own_both f k xs ys)
 -- an operation may make as many records as its line costs, or fewer: in a guarded trace one for whole pages may cost two more
 large_records : (guard size : ℕ) (guarded : Bool) (n h a t : ℕ) (f : Profile) → (guarded ≡ true → 2048 < size) → (guarded ≡ true → guard ≢ 0)
     → records_of_what f (request_kept (if guarded then Some (f.threads + t) else None) n h size a) ≤ cost_of_request guard size
-large_records guard size true n h a t f large some = let same = guarded_cost guard size (large refl) (some refl) in omega (arith, same)
-large_records guard size false n h a t f large some = least_cost guard size
+large_records guard size guarded n h a t f large given = search (arith, guarded_cost, least_cost)
 
 not_none : (guard number : ℕ) (none : Bool) → (guard == 0) ≡ none → not none && (number % guard == 0) ≡ true → guard ≢ 0
-not_none guard number true is sampled = absurd (cc)
-not_none guard number false is sampled = λ zero. absurd (let same = eq-eqb guard 0 zero in cc)
+not_none guard number none is sampled = search (arith, eq-eqb)
 
 wish_records : (f : Profile) (shared : ℕ) (heaps : ℕ → ℕ) (earlier : List Item) (t : ℕ) (w : Wish)
     → records_of_what (sharing f shared) (what_wished f heaps (keeper_for f earlier (Operates t w)) w) ≤ cost_of_wish (guard_in earlier) w
 wish_records f shared heaps earlier t w = search (arith, large_records, and_parts, leb-false, not_none, least_cost)
 
 chore_records : (f : Profile) (shared : ℕ) (c : Chore) → records_of_what (sharing f shared) (what_of_chore c) ≡ records_of_chore f c
-chore_records f shared (Chore.Tick e) = refl
-chore_records f shared c = refl
+chore_records f shared c = search arith
 
 if_le : (t : Bool) (m n : ℕ) → m ≤ n → (if t then m else 0) + 0 ≤ (if t then n else 0)
-if_le true m n le = omega (arith, le)
-if_le false m n le = omega arith
+if_le t m n le = search arith
 
 own_more : (t : Bool) (own cost : ℕ) → own + (if t then cost else 0) ≡ (if t then own + cost else own)
-own_more true own cost = refl
-own_more false own cost = omega arith
+own_more t own cost = search arith
 
 -- The operations of items may make at most as many records as the items.
 all_records : (f : Profile) (shared : ℕ) (items : List Item) → records_of_ops (sharing f shared) (ops_in f items) ≤ costs_of f items
@@ -220,12 +205,10 @@ none_guarded : (earlier : List Item) (t n h s a : ℕ) → guard_in earlier ≡ 
 none_guarded earlier t n h s a none = ap (λ guard. is_large s && is_sampled guard (large_requests t earlier + 1)) none ∙ and-false (is_large s)
 
 if_same : (t : Bool) (n : ℕ) → n ≡ (if t then n else n)
-if_same true n = refl
-if_same false n = refl
+if_same t n = search arith
 
 none_before : (f : Profile) (i : Item) (earlier : List Item) → reason_of f earlier i ≡ None → guard_in (i ∷ earlier) ≡ 0 → guard_in earlier ≡ 0
-none_before f (Guards n) earlier passed none = (guard_passed f earlier n passed).single
-none_before f i earlier passed none = none
+none_before f i earlier passed given = search (arith, guard_passed)
 
 -- Without a guard, operations may make just as many records as their items.
 exact_records : (f : Profile) (shared : ℕ) (items : List Item) → AreChecked f items → guard_in items ≡ 0
@@ -247,13 +230,7 @@ exact_own f shared k (i ∷ earlier) checked none =
     let before = none_before f i earlier checked.0.passes none in
     let both = ap (own_records g k) (ops_next f i earlier) ∙ own_both g k (ops_in f earlier) (new_ops f i earlier) in
     let more = own_more (actor_of i == k) (own_costs f k earlier) (cost_of f (guard_in earlier) i) in
-    let own_exactly : own_records (sharing f shared) k (new_ops f i earlier) ≡ (if actor_of i == k then cost_of f (guard_in earlier) i else 0) = search (
-      arith,
-      none_guarded,
-      unguarded_cost,
-      chore_records,
-      if_same,
-    ) in omega (arith, both, more, own_exactly, exact_own f shared k earlier checked.1 before)
+    let own_exactly : own_records (sharing f shared) k (new_ops f i earlier) ≡ (if actor_of i == k then cost_of f (guard_in earlier) i else 0) = search (arith, none_guarded, unguarded_cost, chore_records, if_same) in omega (arith, both, more, own_exactly, exact_own f shared k earlier checked.1 before)
 
 -- ---- what keepers may make for them, and who they are
 kept_both : (k : ℕ) (xs ys : List Op) → kept_records k (xs ++ ys) ≡ kept_records k xs + kept_records k ys
@@ -261,14 +238,12 @@ kept_both k [] ys = omega arith
 kept_both k (x ∷ xs) ys = omega (arith, kept_both k xs ys)
 
 none_or : (t : Bool) → (if t then 0 else 0) + 0 ≡ 0
-none_or true = refl
-none_or false = refl
+none_or t = search arith
 
 kept_one : (f : Profile) (guarded mine : Bool) (line t k n h s a : ℕ) → (t == k) ≡ mine
     → kept_records k (operation line t (request_kept (if guarded then Some (f.threads + t) else None) n h s a) ∷ [])
     ≡ (if guarded && mine then cost_of_size s else 0)
-kept_one f true mine line t k n h s a is = ap (λ b. (if b then cost_of_size s else 0) + 0) is ∙ omega arith
-kept_one f false mine line t k n h s a is = ap (λ b. (if b then 0 else 0) + 0) is ∙ none_or mine
+kept_one f guarded mine line t k n h s a is = search (arith, none_or)
 
 -- A keeper's operations may make just as many records as its items.
 all_kept : (f : Profile) (k : ℕ) (items : List Item) → kept_records k (ops_in f items) ≡ kept_costs f k items
@@ -282,8 +257,7 @@ all_kept f k (i ∷ earlier) =
 -- each guarded request after a `guard` line has the keeper of its thread
 one_kept : (f : Profile) (guard : ℕ) (guarded : Bool) (line t n h s a : ℕ) → (guarded ≡ true → guard ≢ 0)
     → AreKept f guard (operation line t (request_kept (if guarded then Some (f.threads + t) else None) n h s a) ∷ [])
-one_kept f guard true line t n h s a some = ((refl, some refl), tt)
-one_kept f guard false line t n h s a some = (tt, tt)
+one_kept f guard guarded line t n h s a given = search arith
 
 keepers_both : (f : Profile) (guard : ℕ) (xs ys : List Op) → AreKept f guard xs → AreKept f guard ys → AreKept f guard (xs ++ ys)
 keepers_both f guard [] ys a b = b
@@ -292,16 +266,14 @@ keepers_both f guard (x ∷ xs) ys a b = (a.0, keepers_both f guard xs ys a.1 b)
 -- a `guard` line stands before them all
 kept_so : (guard other place : ℕ) (o : Option ℕ) → (guard ≢ 0 → other ≢ 0) → MatchOption o (Unit {0}) (λ keeper. (keeper ≡ place) × (guard ≢ 0))
     → MatchOption o (Unit {0}) (λ keeper. (keeper ≡ place) × (other ≢ 0))
-kept_so guard other place None more kept = tt
-kept_so guard other place (Some keeper) more kept = (kept.0, more kept.1)
+kept_so guard other place o more kept = search arith
 
 same_guard : (f : Profile) (guard other : ℕ) (ops : List Op) → (guard ≢ 0 → other ≢ 0) → AreKept f guard ops → AreKept f other ops
 same_guard f guard other [] more kept = tt
 same_guard f guard other (op ∷ ops) more kept = (kept_so guard other (f.threads + op.actor) _ more kept.0, same_guard f guard other ops more kept.1)
 
 guard_more : (f : Profile) (i : Item) (earlier : List Item) → reason_of f earlier i ≡ None → guard_in earlier ≢ 0 → guard_in (i ∷ earlier) ≢ 0
-guard_more f (Guards n) earlier passed some = absurd (some (guard_passed f earlier n passed).single)
-guard_more f i earlier passed some = some
+guard_more f i earlier passed given = search (arith, guard_passed)
 
 item_guard : (f : Profile) (i : Item) (earlier : List Item) → reason_of f earlier i ≡ None → AreKept f (guard_in (i ∷ earlier)) (new_ops f i earlier)
 item_guard f i earlier passed =
@@ -350,18 +322,15 @@ bound_at f items k (suc n) lt =
 
 -- ---- the actors
 guarded_few : (none : Bool) (threads : ℕ) → threads ≤ 16 → threads ≤ 8 → (if none then threads else 2 * threads) ≤ 16
-guarded_few true threads most few = most
-guarded_few false threads most few = omega (arith, few)
+guarded_few none threads most few = search arith
 
 -- There are twice as many actors as threads at most.
 among : (none : Bool) (threads : ℕ) → threads ≤ (if none then threads else 2 * threads)
-among true threads = omega arith
-among false threads = omega arith
+among none threads = search arith
 
 of_one : (f g guard place : ℕ) (o : Option ℕ) → f ≡ g → MatchOption o (Unit {0}) (λ keeper. (keeper ≡ g + place) × (guard ≢ 0))
     → MatchOption o (Unit {0}) (λ keeper. (keeper ≡ f + place) × (guard ≢ 0))
-of_one f g guard place None same kept = tt
-of_one f g guard place (Some keeper) same kept = (kept.0 ∙ ap (λ n. n + place) (sym same), kept.1)
+of_one f g guard place o same kept = search arith
 
 of_threads : (f g : Profile) (guard : ℕ) (ops : List Op) → f.threads ≡ g.threads → AreKept g guard ops → AreKept f guard ops
 of_threads f g guard [] same kept = tt
@@ -410,8 +379,7 @@ every_plan {text} {plan} is =
       names = subst (AreBelow plan.names_limit) (sym ops) (all_below plan.names_limit [] (ops_in f is.items) (λ n asked. is.names n (sym (follow.names n) ∙ asked)));
       phases = omega (arith, many, phases, few, lines_few text);
       actors = omega (arith, known, actors_few f is.items all.checked all.valid.threads);
-      keepers = subst (λ (os : List Op). AreKept plan.profile plan.guard os) (sym ops) (subst (λ (n : ℕ). AreKept plan.profile n (ops_in f is.items))
-          (sym is.guard) (of_threads plan.profile f (guard_in is.items) (ops_in f is.items) threads (all_keepers f is.items all.checked)));
+      keepers = subst (λ (os : List Op). AreKept plan.profile plan.guard os) (sym ops) (rw is.guard (of_threads plan.profile f (guard_in is.items) (ops_in f is.items) threads (all_keepers f is.items all.checked)));
       count = ap (λ bs. length bs) is.bounds ∙ bounds_count f is.items (actors + 1) ∙ ap (λ n. n + 1) (sym known);
       scavenger = bound 0 (omega arith) ∙ sym (ap (λ h. own_records h 0 (operations_of plan)) is.profile ∙ ap (own_records g 0) ops ∙ all_scavenger f (shared_in is.items) is.items all.checked);
       own = search (arith, bound-thread);
@@ -487,17 +455,14 @@ record HasLast (f : Profile) (items : List Item) : Type 0 where
   own : HaveOwn (λ k. own_by k (asked_in front) last) items
 
 chore_frees : (c : Chore) → freed_in (what_of_chore c) ≡ None
-chore_frees (Chore.Tick e) = refl
-chore_frees c = refl
+chore_frees c = search arith
 
 -- ---- what a thread may free after an item
 either_same : (t : Bool) (asked : List ℕ) (n : ℕ) → is_asked asked n ≡ true → is_asked (if t then asked else asked) n ≡ true
-either_same true asked n is = is
-either_same false asked n is = is
+either_same t asked n is = search arith
 
 only_left : (t : Bool) → t || false ≡ true → t ≡ true
-only_left true is = refl
-only_left false is = absurd (cc)
+only_left t is = search arith
 
 -- ---- item by item
 after_other : (f : Profile) (i : Item) (earlier : List Item) → is_phase i ≡ false → reason_of f earlier i ≡ None → HasLast f earlier → HasLast f (i ∷ earlier)
@@ -512,8 +477,7 @@ after_other f i earlier other passed at =
       fronts = at.fronts;
       names = subst (λ now. AreNames now (i ∷ earlier)) (sym (asked_both before at.last news)) (λ m. search (arith, asks_none));
       frees = λ k. frees_both k before at.last news (at.frees k) (search (arith, own_passed, held_both, chore_frees));
-      own = λ k n may. subst (λ now. is_asked now n ≡ true) (sym (own_in_turn k before at.last news))
-          (search (arith, false≢true, eq-eqb, eqb-true, only_left, asks_none, either_same));
+      own = λ k n may. rw own_in_turn (search (arith, false≢true, eq-eqb, eqb-true, only_left, asks_none, either_same));
     }
 
 after_item : (f : Profile) (i : Item) (earlier : List Item) → reason_of f earlier i ≡ None → HasLast f earlier → HasLast f (i ∷ earlier)
@@ -548,8 +512,7 @@ item_count : (f : Profile) (i : Item) (earlier : List Item) → length (new_ops 
 item_count f i earlier = search arith
 
 count_more : (t : Bool) (n : ℕ) → n + (if t then 1 else 0) ≡ (if t then n + 1 else n)
-count_more true n = refl
-count_more false n = omega arith
+count_more t n = search arith
 
 all_counted : (f : Profile) (items : List Item) → length (ops_in f items) ≡ operations_in items
 all_counted f [] = refl
@@ -559,8 +522,7 @@ all_counted f (i ∷ earlier) =
 
 -- ---- the check of each is that fewer than 1,000,000 stood before it
 one_more : (t : Bool) (n : ℕ) → n ≤ 1000000 → (t ≡ true → n < 1000000) → (if t then n + 1 else n) ≤ 1000000
-one_more true n before room = let lt = room refl in omega (arith, lt)
-one_more false n before room = before
+one_more t n before room = search arith
 
 few_items : (f : Profile) (items : List Item) → AreChecked f items → operations_in items ≤ 1000000
 few_items f [] checked = omega arith

@@ -1,12 +1,11 @@
 -- Lines at the front of a text: their digits, their words, and where they end.
-use Rattle.std.proofs.Common.{◌≡◌, ◌≢◌, ℕ, ◌+◌, ◌-◌, ◌*◌, ◌^◌, ◌<◌, ◌≤◌, ◌==◌, nat_lt, Bool, true, false, if◌then◌else◌, List, [], ◌∷◌, ◌++◌, take, drop}
-use Rattle.std.proofs.Common.{length, get_or, None, Some, Ok, refl, sym, ap, ◌∙◌, arith, append_assoc, length-append, take-append-drop, length-take-le, le-leb}
-use Rattle.std.proofs.{Common.{lt-ltb, ne_eqb}, Math.Nat.pow-le-pow_right, lemmas.{Grind.pow_more, List.{take_rest, take_more, drop_more}, Bool.and_from}}
-use Rattle.std.proofs.lemmas.Bool.{and_parts}
-use Rattle.pas_trace.specs.{Texts.{pieces, without_empty, lines_of}, FirstLines.{BeginsWith, FirstSays}, Numbers.{is_digit, all_digits, value_from, is_decimal}}
-use Rattle.pas_trace.specs.{Numbers.number_of, Items.{trace_name, item2, item5, item_of_words}, declared.item.Item.{Item, TheVariants.Operates}}
-use Rattle.pas_trace.{specs.declared.item.Wish.TheVariants.{Asks, Frees}, proofs.{Digits.{digit-is, digits-add, value-add}, WordLines.{keeps, IsLine, Lacks}}}
-use Rattle.pas_trace.proofs.WordLines.{lacks-both, digits-lack, pieces-until, pieces-only, lines-until}
+use Rattle.std.proofs.Common.{◌≡◌, ◌≢◌, ℕ, ◌+◌, ◌-◌, ◌*◌, ◌^◌, ◌<◌, ◌≤◌, ◌==◌, Bool, true, false, List, [], ◌∷◌, ◌++◌, take, drop, length, get_or, Some, Ok}
+use Rattle.std.proofs.Common.{refl, sym, ap, ◌∙◌, arith, append_assoc, length-append, take-append-drop, length-take-le, le-leb, lt-ltb, ne_eqb}
+use Rattle.std.proofs.{Math.Nat.pow-le-pow_right, lemmas.{Grind.pow_more, List.{take_rest, take_more, drop_more}, Bool.{and_from, and_parts}}}
+use Rattle.pas_trace.specs.{Texts.{pieces, without_empty, lines_of}, FirstLines.{BeginsWith, FirstSays}, Numbers.{is_digit, all_digits, value_from, number_of}}
+use Rattle.pas_trace.specs.{Items.{trace_name, item2, item5, item_of_words}, declared.item.{Item.{Item, TheVariants.Operates}, Wish.TheVariants.{Asks, Frees}}}
+use Rattle.pas_trace.proofs.{Digits.{digit-is, digits-add, value-add}, WordLines.{keeps, IsLine, Lacks, lacks-both, digits-lack, pieces-until, pieces-only}}
+use Rattle.pas_trace.proofs.WordLines.{lines-until}
 
 -- the first so many bytes are digits of this value
 pub record AreDigits (text : List ℕ) (count value : ℕ) : Type 0 where
@@ -44,18 +43,7 @@ number-found : (text : List ℕ) (count value end : ℕ) → all_digits (take co
     → 0 < count → count < length text → get_or text count 0 ≡ end → (1 < count → get_or text 0 0 ≢ 48)
     → BeginsWith text value end (take (length text - (count + 1)) (drop (count + 1) text))
 number-found text count value end digits is small some within ended head =
-    let w = take count text in
-    let long : length w ≡ count = length-take-le count text (omega arith) in
-    let decimal : is_decimal w ≡ true = search (arith, and_parts, and_from, le-leb) in
-    let fits : nat_lt (value_from 0 w) (2 ^ 64) ≡ true = lt-ltb _ _ (omega (arith, is, small)) in
-    let tested = and_from _ _ decimal fits in
-    record {
-      word = w;
-      digits = digits;
-      number = ap (λ (t : Bool). if t then Some (value_from 0 w) else None) tested ∙ ap Some (sym is);
-      text_is = sym (take-append-drop count text) ∙ ap (λ (t : List ℕ). w ++ t) (drop_more text count 0 within)
-          ∙ (λ t. w ++ ended t ∷ sym (take_rest text (count + 1)) t);
-    }
+    search (arith, length-take-le, and_parts, and_from, le-leb, lt-ltb, take-append-drop, drop_more, take_rest)
 
 -- .. of one digit
 pub one-found : (text : List ℕ) (end : ℕ) → 2 ≤ length text → get_or text 1 0 ≡ end → 48 ≤ get_or text 0 0 → get_or text 0 0 ≤ 57
@@ -80,16 +68,10 @@ two-found (x ∷ y ∷ z ∷ rest) end three ended lo hi low high =
 
 -- ---- words and the end of the line
 number-some : (w : List ℕ) (n : ℕ) → number_of w ≡ Some n → 0 < length w
-number-some [] n e = absurd (cc)
-number-some (b ∷ bs) n e = omega arith
+number-some w n e = search arith
 
 line-end : (text : List ℕ) (n : ℕ) (rest : List ℕ) (b : BeginsWith text n 10 rest) → IsLine text (b.word ∷ []) rest
-line-end text n rest b = record {
-  line = b.word;
-  text_is = b.text_is;
-  whole = digits-lack 10 b.word (omega arith) b.digits;
-  words_are = ap without_empty (pieces-only 32 b.word (digits-lack 32 b.word (omega arith) b.digits)) ∙ keeps b.word [] (number-some b.word n b.number);
-}
+line-end text n rest b = search (arith, digits-lack, pieces-only, number-some)
 
 word-more : (text w after : List ℕ) (words : List (List ℕ)) (rest : List ℕ) → text ≡ w ++ 32 ∷ after → Lacks 10 w → Lacks 32 w → 0 < length w
     → IsLine after words rest → IsLine text (w ∷ words) rest

@@ -1,13 +1,12 @@
 -- What the reader's tables hold after each step.
-use Rattle.std.proofs.Common.{◌≡◌, ℕ, zero, suc, ◌<◌, ◌==◌, true, false, if◌then◌else◌, List, [], ◌∷◌, ◌++◌, length, map, get_or, set, Some, refl, sym, ap}
-use Rattle.std.proofs.Common.{subst, ◌∙◌, inl, inr, get_or-set_same, get_or-set_other, eq-eqb, ne_eqb, ◌+◌, Bool, arith, Result, Ok, Err, MatchResult}
-use Rattle.std.{proofs.lemmas.{Bool.cases_eq, List.{map-append, get_or_append_left, get_or_at, length-map}}, specs.Global.Vec}
-use Rattle.pas_trace.specs.{Codes.{unlined, is_rare, IsPlaced, nothing, said_by, no_code}, Plans.{add_last, ops_of, parsed, IsReading}, Scripts.without_lines}
-use Rattle.pas_trace.specs.{Scripts.{coded_ops, IsScriptFor, IsScriptOf, IsScripting}, Gathering.{scripted_phases, HasGathered, Gathers, is_scripting}}
-use Rattle.pas_trace.specs.declared.{gathered.{Coded.Coded, Gathered.Gathered}, plan.{Op.Op, Phase.Phase, Plan.Plan}, code.Code.Code, header.Header.Header}
-use Rattle.pas_trace.specs.declared.{fault.ReadFault.{ReadFault, TheVariants.{Trace, NoMemory}}, item.Item.Item, reader.Reader.Reader}
-use Rattle.pas_trace.specs.{declared.script.{CodedPhase.CodedPhase, Script.Script}, Told.{Tells, IsRead, IsBegun, IsPlanned, IsScripted}}
-use Rattle.pas_trace.proofs.LexedLines.{read-planned, plan-read}
+use Rattle.std.proofs.Common.{◌≡◌, ℕ, zero, suc, ◌<◌, ◌==◌, true, if◌then◌else◌, List, [], ◌∷◌, ◌++◌, length, map, get_or, set, Some, refl, sym, ap, ◌∙◌}
+use Rattle.std.proofs.{Common.{get_or-set_same, get_or-set_other, eq-eqb, ne_eqb, ◌+◌, Bool, arith, Result, Ok, Err, MatchResult}, lemmas.Bool.cases_eq}
+use Rattle.std.{proofs.lemmas.List.{map-append, get_or_append_left, get_or_at, length-map}, specs.Global.Vec}
+use Rattle.pas_trace.specs.{Codes.{unlined, is_rare, IsPlaced, said_by, no_code}, Plans.{add_last, ops_of, parsed, IsReading}, Scripts.without_lines}
+use Rattle.pas_trace.specs.{Scripts.{coded_ops, IsScriptFor, IsScriptOf, IsScripting}, Gathering.{scripted_phases, Gathers}, declared.gathered.Coded.Coded}
+use Rattle.pas_trace.specs.declared.{gathered.Gathered.Gathered, plan.{Op.Op, Phase.Phase, Plan.Plan}, code.Code.Code, header.Header.Header}
+use Rattle.pas_trace.specs.declared.{fault.ReadFault.{ReadFault, TheVariants.NoMemory}, item.Item.Item, reader.Reader.Reader, script.CodedPhase.CodedPhase}
+use Rattle.pas_trace.{specs.{declared.script.Script.Script, Told.{Tells, IsRead, IsBegun, IsPlanned, IsScripted}}, proofs.LexedLines.{read-planned, plan-read}}
 use Rattle.pas_trace.specs.declared.gathered.Gathered.TheVariants as kind
 
 -- an operation goes to the end of the last phase
@@ -25,12 +24,7 @@ add_last-unlined (p ∷ q ∷ phases) op = ap (λ rest. map unlined p ∷ rest) 
 -- A script that has gathered an operation without its line has gathered it.
 pub coded-added : (op : Op) (old : Gathered) (was now : Coded) → old ≡ kind.Coded was
     → scripted_phases now ≡ add_last (Some (unlined op)) (scripted_phases was) → Gathers (add_last (Some op)) old (kind.Coded now)
-coded-added op old was now is e = record {
-  scripting = sym (ap is_scripting is);
-  phases = λ phases h.
-      let before : scripted_phases was ≡ without_lines phases = subst (λ (g : Gathered). HasGathered phases g) is h in
-      e ∙ ap (λ ps. add_last (Some (unlined op)) ps) before ∙ sym (add_last-unlined phases op);
-}
+coded-added op old was now is e = search (arith, add_last-unlined)
 
 -- one more default at the end changes no place
 pub get_or-more : {X : Type 0} (xs : List X) (d : X) (n : ℕ) → get_or (xs ++ d ∷ []) n d ≡ get_or xs n d
@@ -41,10 +35,7 @@ get_or-more (x ∷ xs) d (suc n) = get_or-more xs d n
 
 -- what a write changes
 pub get_or-written : {X : Type 0} (xs : List X) (i n : ℕ) (x d : X) → i < length xs → get_or (set xs i x) n d ≡ (if n == i then x else get_or xs n d)
-get_or-written xs i n x d lt = elim (cases_eq n i) [
-  | inl e ↦ let t : (n == i) ≡ true = eq-eqb n i e in rw (t, e) (get_or-set_same xs i x d lt)
-  | inr ne ↦ let t : (n == i) ≡ false = ne_eqb n i ne in rw t (get_or-set_other xs i n x d ne)
-]
+get_or-written xs i n x d lt = search (arith, cases_eq, eq-eqb, get_or-set_same, ne_eqb, get_or-set_other)
 
 -- ==== Codes beside a list of whole operations.
 
@@ -66,9 +57,7 @@ said-more rare op (c ∷ codes) all = ap (λ o. o ∷ map (said_by (rare ++ op �
 -- .. and the others stand for what they stood for.
 pub rare-added : (codes : List Code) (rare now : List Op) (op : Op) (code : Code) → ArePlaced (length rare) codes → now ≡ rare ++ op ∷ [] → is_rare code ≡ true
     → code.tail ≡ length rare → map (said_by now) codes ++ said_by now code ∷ [] ≡ map (said_by rare) codes ++ unlined op ∷ []
-rare-added codes rare now op code all e is last = ap (λ (xs : List Op). map (said_by xs) codes ++ said_by xs code ∷ []) e
-    ∙ ap (λ (ops : List Op). ops ++ said_by (rare ++ op ∷ []) code ∷ []) (said-more rare op codes all)
-    ∙ ap (λ (o : Op). map (said_by rare) codes ++ o ∷ []) (rw (is, last) (ap unlined (get_or_at rare op [] nothing (length rare) refl)))
+rare-added codes rare now op code all e is last = search (arith, said-more, get_or_at)
 
 -- ==== The plan that a script is of.
 
@@ -143,5 +132,4 @@ scripted-reading text reader a is h = search arith
 
 -- A script has the faults of a plan.
 pub same-fault : (text : List ℕ) (fault : ReadFault) → IsReading text (Err fault) → IsScripting text (Err fault)
-same-fault text (Trace fault) h = h
-same-fault text NoMemory h = tt
+same-fault text fault h = search arith

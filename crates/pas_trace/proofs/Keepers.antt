@@ -1,18 +1,16 @@
 -- How many keepers a plan has.
-use Rattle.std.proofs.Common.{◌≡◌, ℕ, ◌+◌, ◌*◌, ◌≤◌, ◌==◌, Bool, true, false, if◌then◌else◌, arith}
+use Rattle.std.proofs.Common.{◌≡◌, ℕ, ◌+◌, ◌*◌, ◌≤◌, ◌==◌, Bool, if◌then◌else◌, arith}
 use Rattle.pas_trace.specs.{Acts.{region_of, threads_of, keepers_of}, declared.plan.Plan.Plan}
 
 both_numbers : (t : Bool) (n : ℕ) → n + (if t then 0 else n) ≡ (if t then n else 2 * n)
-both_numbers true n = omega arith
-both_numbers false n = omega arith
+both_numbers t n = search arith
 
 -- the actors of its region are its threads, and its keepers behind them
 pub plan_actors : (plan : Plan) → threads_of plan + keepers_of plan ≡ (region_of plan).threads
 plan_actors plan = both_numbers (plan.guard == 0) plan.profile.threads
 
 few_keepers : (t : Bool) (n : ℕ) → (if t then 0 else n) ≤ n
-few_keepers true n = omega arith
-few_keepers false n = omega arith
+few_keepers t n = search arith
 
 -- as many as threads at most
 pub keepers_few : (plan : Plan) → keepers_of plan ≤ threads_of plan

@@ -1,7 +1,7 @@
 -- The lines that are read, and those that are left.
-use Rattle.std.proofs.Common.{arith, ◌≡◌, ℕ, ◌+◌, Bool, List, [], ◌∷◌, Some, Result, Ok, Err, MatchResult, refl, sym, ap, subst, ◌∙◌, ◌==◌, true, false}
-use Rattle.std.proofs.{Common.{if◌then◌else◌, ◌++◌, OnOk, map, length, codes, append_assoc, length-append}, lemmas.List.map-append}
-use Rattle.pas_trace.specs.declared.{header.Header.Header, fault.{ReadFault.{ReadFault, TheVariants.{Trace, NoMemory}}, Reason.Reason, TraceFault.TraceFault}}
+use Rattle.std.proofs.Common.{arith, ◌≡◌, ℕ, ◌+◌, Bool, List, [], ◌∷◌, Some, Result, Ok, Err, MatchResult, refl, sym, ap, subst, ◌∙◌, ◌==◌, true, if◌then◌else◌}
+use Rattle.std.proofs.{Common.{◌++◌, OnOk, map, length, codes, append_assoc, length-append}, lemmas.List.map-append}
+use Rattle.pas_trace.specs.declared.{header.Header.Header, fault.{ReadFault.{ReadFault, TheVariants.NoMemory}, Reason.Reason, TraceFault.TraceFault}}
 use Rattle.pas_trace.specs.{declared.{item.Item.{Item, TheVariants.Shares}, plan.Plan.Plan, reader.Reader.Reader}, Texts.{lines_of, words_of}}
 use Rattle.pas_trace.specs.{Reasons.{line_says, header_of}, Gathering.is_scripting, FirstLines.FirstSays, Lexed.{Say, AreLexed}, Plans.{parsed, parsed_lines}}
 use Rattle.pas_trace.specs.{Plans.{with_header, with_items, items_from, after_item, IsPlanOf, IsReading, line_of_newest}, Told.{Tells, IsTaken, AreTaken}}
@@ -23,23 +23,13 @@ after-taken : (old now new : Reader) (start : List Item) (lines : List (List ℕ
     (far : SoFar old start lines now (line ∷ left))
     → IsTaken now far.items line new (Ok tt) → SoFar old start lines new left
 after-taken old now new start lines line left far t =
-    let i = t.0 in
-    let says : line_says old.header far.items line ≡ Ok i = ap (λ (f : Header). line_says f far.items line) (sym far.header) ∙ t.1 in
-    record {
-      items = i ∷ far.items;
-      tells = t.2;
-      header = t.3 ∙ far.header;
-      scripting = t.5 ∙ far.scripting;
-      same = far.same ∙ ap (λ says. after_item (now.line + 1) says (λ i. items_from old.header (now.line + 1 + 1) (i ∷ far.items) left)) says
-          ∙ ap (λ n. items_from old.header (n + 1) (i ∷ far.items) left) (sym t.4);
-    }
+    search arith
 
 -- the line with the fault is the first of those that are left
 taken-fault : (old now new : Reader) (start : List Item) (lines : List (List ℕ)) (line : List ℕ) (left : List (List ℕ)) (fault : ReadFault)
     (far : SoFar old start lines now (line ∷ left))
     → IsTaken now far.items line new (Err fault) → AreTaken old start lines new (Err fault)
-taken-fault old now new start lines line left (Trace fault) far t = search arith
-taken-fault old now new start lines line left NoMemory far t = tt
+taken-fault old now new start lines line left fault far t = search arith
 
 -- ---- the first line of a text
 abbrev pub left-is : (old now : Reader) (start : List Item) (lines left other : List (List ℕ)) → left ≡ other → SoFar old start lines now left
@@ -55,18 +45,7 @@ parsed-items text line rest f e h = ap parsed_lines e ∙ ap (λ header. with_he
 -- A text whose items and header are these has a plan that is made of them.
 pub plan-read : (text : List ℕ) (f : Header) (all : List Item) (plan : Plan) → parsed text ≡ Ok (record { header = f; items = all }) → IsPlanned f all plan
     → IsPlanOf text plan
-plan-read text f all plan read p = record {
-  items = all;
-  header = f;
-  read = read;
-  version = p.outline.version;
-  profile = p.outline.profile;
-  guard = p.outline.guard;
-  phases = p.phases;
-  bounds = p.outline.bounds;
-  total = p.outline.total;
-  names = p.outline.names;
-}
+plan-read text f all plan read p = search arith
 
 from-second : (r : Reader) (rest : List ℕ) → Tells r [] → items_from r.header 2 [] (lines_of rest) ≡ items_from r.header (r.line + 1) [] (lines_of rest)
 from-second r rest t = ap (λ n. items_from r.header n [] (lines_of rest)) (sym (ap (λ n. n + 1) t.line))
@@ -96,8 +75,7 @@ planned-reading text reader a is h = search arith
 shared-anywhere : (is : Bool) (started : Bool) (shares other : Result Item Reason) (item : Item)
     → (if is then (if true then Err Reason.BadWord else shares) else other) ≡ Ok item
     → (if is then (if started then Err Reason.BadWord else shares) else other) ≡ Ok item
-shared-anywhere true started shares other item e = absurd (cc)
-shared-anywhere false started shares other item e = e
+shared-anywhere is started shares other item e = search arith
 
 count-anywhere : (started : Bool) (w : List ℕ) (more : List (List ℕ)) (item : Item) → item_by_count true w more ≡ Ok item
     → item_by_count started w more ≡ Ok item
@@ -111,13 +89,11 @@ count-anywhere started w (a ∷ b ∷ c ∷ d ∷ f ∷ g ∷ more) item e = e
 
 since-anywhere : (is : Bool) (one other : Result Item Reason) (why : Reason) (item : Item) → (one ≡ Ok item → other ≡ Ok item)
     → (if is then one else Err why) ≡ Ok item → (if is then other else Err why) ≡ Ok item
-since-anywhere true one other why item h e = h e
-since-anywhere false one other why item h e = absurd (cc)
+since-anywhere is one other why item h e = search arith
 
 comment-anywhere : (is : Bool) (blank one other : Result Item Reason) (item : Item) → (one ≡ Ok item → other ≡ Ok item) → (if is then blank else one) ≡ Ok item
     → (if is then blank else other) ≡ Ok item
-comment-anywhere true blank one other item h e = e
-comment-anywhere false blank one other item h e = h e
+comment-anywhere is blank one other item h e = search arith
 
 -- A line that says an item after the first operation says it before, too.
 pub says-anywhere : (version : ℕ) (started : Bool) (line : List ℕ) (item : Item) → item_of_line version true line ≡ Ok item
@@ -204,8 +180,7 @@ none-left version (line ∷ left) say = let e = say true in absurd (cc)
 -- ---- lines in front of others
 after-more : (n : ℕ) (says : Result Item Reason) (some more : Item → Result (List Item) TraceFault) (all : List Item) (result : Result (List Item) TraceFault)
     → ((i : Item) → some i ≡ Ok all → more i ≡ result) → after_item n says some ≡ Ok all → after_item n says more ≡ result
-after-more n (Ok i) some more all result h e = h i e
-after-more n (Err r) some more all result h e = absurd (cc)
+after-more n says some more all result h e = search arith
 
 -- Lines that are taken without a fault leave the others to be taken.
 pub items-more : (f : Header) (told : List Item) (xs ys : List (List ℕ)) (all : List Item) → items_from f (line_of_newest told + 1) told xs ≡ Ok all
@@ -215,8 +190,7 @@ items-more f told (x ∷ xs) ys all e = after-more _ _ _ _ all _ (λ i. items-mo
 
 after-fault : (n : ℕ) (says : Result Item Reason) (some more : Item → Result (List Item) TraceFault) (fault : TraceFault)
     → ((i : Item) → some i ≡ Err fault → more i ≡ Err fault) → after_item n says some ≡ Err fault → after_item n says more ≡ Err fault
-after-fault n (Ok i) some more fault h e = h i e
-after-fault n (Err r) some more fault h e = e
+after-fault n says some more fault h e = search arith
 
 -- A fault is the first one whatever lines follow.
 pub items-fault : (f : Header) (n : ℕ) (told : List Item) (xs ys : List (List ℕ)) (fault : TraceFault) → items_from f n told xs ≡ Err fault
@@ -228,17 +202,7 @@ items-fault f n told (x ∷ xs) ys fault e = after-fault n (line_says f told x) 
 pub after-lines : (old now new : Reader) (start : List Item) (lines xs ys : List (List ℕ)) (far : SoFar old start lines now (xs ++ ys))
     → AreTaken now far.items xs new (Ok tt) → SoFar old start lines new ys
 after-lines old now new start lines xs ys far t =
-    let line : now.line ≡ line_of_newest far.items = far.tells.line in
-    let line' : new.line ≡ line_of_newest t.0 = t.2.line in
-    let taken : items_from old.header (line_of_newest far.items + 1) far.items xs ≡ Ok t.0 =
-    ap (λ n. items_from old.header (n + 1) far.items xs) (sym line) ∙ ap (λ (f : Header). items_from f (now.line + 1) far.items xs) (sym far.header) ∙ t.1 in
-    record {
-      items = t.0;
-      tells = t.2;
-      header = t.3 ∙ far.header;
-      scripting = t.4 ∙ far.scripting;
-      same = far.same ∙ ap (λ n. items_from old.header (n + 1) far.items (xs ++ ys)) line ∙ items-more old.header far.items xs ys t.0 taken ∙ ap (λ n. items_from old.header (n + 1) t.0 ys) (sym line');
-    }
+    search (arith, items-more)
 
 -- .. and those that are left
 pub all-read : (old now new : Reader) (start : List Item) (lines left : List (List ℕ)) (result : Result (Unit {0}) ReadFault)
@@ -261,8 +225,7 @@ lexed-fault old new start text items left fault lexed t taken = search (arith, i
 
 -- ---- results and lists
 pub at-ok : (result : Result (Unit {0}) ReadFault) (P : Type 0) → OnOk result P → result ≡ Ok tt → P
-at-ok (Ok done) P h e = h
-at-ok (Err fault) P h e = absurd (cc)
+at-ok result P h e = search arith
 
 -- A list of length 0 is empty.
 pub none-of : (xs : List ℕ) → length xs ≡ 0 → xs ≡ []

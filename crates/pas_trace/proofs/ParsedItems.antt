@@ -1,6 +1,6 @@
 -- A header has ten words, and its numbers are within the limits.
-use Rattle.std.proofs.Common.{◌≡◌, ℕ, ◌<◌, ◌≤◌, ◌&&◌, Bool, true, false, if◌then◌else◌, List, [], ◌∷◌, length, Option, None, Some, refl, subst, arith, codes}
-use Rattle.std.proofs.{Common.{le-leb, ◌-◌, ◌^◌, ◌==◌, nat_lt, Result, IfOk, MatchOption, ltb-true, ◌+◌, Ok, Err, ap, ◌∙◌}, lemmas.Bool.and_parts}
+use Rattle.std.proofs.Common.{◌≡◌, ℕ, ◌<◌, ◌≤◌, ◌&&◌, Bool, if◌then◌else◌, List, [], ◌∷◌, length, Option, None, Some, refl, subst, arith, codes, le-leb, ◌-◌}
+use Rattle.std.proofs.{Common.{◌^◌, nat_lt, Result, IfOk, MatchOption, ltb-true, ◌+◌, Ok, Err, ap, ◌∙◌}, lemmas.Bool.and_parts}
 use Rattle.pas_profile.specs.{Profiles.{IsValid, AreClassesFor}, declared.profile.Profile.Profile}
 use Rattle.pas_trace.specs.declared.{header.Header.Header, fault.{Reason.Reason, TraceFault.TraceFault}, item.Item.{Item, TheVariants.{Operates, Scavenges}}}
 use Rattle.pas_trace.specs.{declared.item.Wish.TheVariants.{FreesRaw, FreesRawSized}, Texts.{words_of, lines_of}, Numbers.number_of, Asked.epoch_of}
@@ -22,8 +22,7 @@ short8 a b c d e f g h i lt = search arith
 
 -- ---- the limits
 in_range : (least most n : ℕ) (o : Option ℕ) → within least most o ≡ Some n → (least ≤ n) × (n ≤ most)
-in_range least most n None e = absurd (cc)
-in_range least most n (Some m) e = search (arith, if_some, and_parts)
+in_range least most n o e = search (arith, if_some, and_parts)
 
 -- a number that is there is within these limits
 abbrev Within : ℕ → ℕ → Option ℕ → Type 0
@@ -31,8 +30,7 @@ Within least most o = (n : ℕ) → o ≡ Some n → (least ≤ n) × (n ≤ mos
 
 -- the classes and the pages of either kind of region
 region_fits : (large : Bool) (p : ℕ) → p ≤ (if large then 16384 else 4096) → AreClassesFor p (if large then 20 else 16) × (p ≤ 16384)
-region_fits true p le = (refl, le)
-region_fits false p le = (le-leb p 4096 le, omega (arith, le))
+region_fits large p le = search (arith, le-leb)
 
 numbers_valid : (version : ℕ) (p t h a : Option ℕ) (f : Header) → Within 1 (most_pages version) p → Within 1 16 t → Within 1 32 h → Within 1 1000000 a
     → header_with version p t h a ≡ Some f → IsValid f.profile
@@ -65,33 +63,27 @@ IsInRange (Scavenges c) = MatchOption (epoch_of c) (Unit {0}) (λ e. e < 2 ^ 40)
 IsInRange i = Unit {0}
 
 if_range : (t : Bool) (a b : Result Item Reason) → IfOk a IsInRange → IfOk b IsInRange → IfOk (if t then a else b) IsInRange
-if_range true a b x y = x
-if_range false a b x y = y
+if_range t a b x y = search arith
 
 -- An item of one number is in range where the number is,
 range1 : (make : ℕ → Item) (a : Option ℕ) → ((x : ℕ) → a ≡ Some x → IsInRange (make x)) → IfOk (item1 make a) IsInRange
-range1 make None all = tt
-range1 make (Some a) all = all a refl
+range1 make a all = search arith
 
 -- one of two numbers,
 range2 : (make : ℕ → ℕ → Item) (a b : Option ℕ) → ((x y : ℕ) → b ≡ Some y → IsInRange (make x y)) → IfOk (item2 make a b) IsInRange
-range2 make None b all = tt
-range2 make (Some a) b all = range1 (make a) b (all a)
+range2 make a b all = search (arith, range1)
 
 -- of three,
 range3 : (make : ℕ → ℕ → ℕ → Item) (a b c : Option ℕ) → ((x y z : ℕ) → c ≡ Some z → IsInRange (make x y z)) → IfOk (item3 make a b c) IsInRange
-range3 make None b c all = tt
-range3 make (Some a) b c all = range2 (make a) b c (all a)
+range3 make a b c all = search (arith, range2)
 
 -- of four,
 range4 : (make : ℕ → ℕ → ℕ → ℕ → Item) (a b c d : Option ℕ) → ((w x y z : ℕ) → IsInRange (make w x y z)) → IfOk (item4 make a b c d) IsInRange
-range4 make None b c d all = tt
-range4 make (Some a) b c d all = range3 (make a) b c d (λ x y z is. all a x y z)
+range4 make a b c d all = search (arith, range3)
 
 -- .. of five by the third
 first_of_three : (make : ℕ → ℕ → ℕ → Item) (a b c : Option ℕ) → ((x y z : ℕ) → a ≡ Some x → IsInRange (make x y z)) → IfOk (item3 make a b c) IsInRange
-first_of_three make None b c all = tt
-first_of_three make (Some a) b c all = range2 (make a) b c (λ y z is. all a y z refl)
+first_of_three make a b c all = search (arith, range2)
 
 -- and of five.
 range5 : (make : ℕ → ℕ → ℕ → ℕ → ℕ → Item) (a b c d e : Option ℕ) → ((v w x y z : ℕ) → c ≡ Some x → IsInRange (make v w x y z))
@@ -99,12 +91,10 @@ range5 : (make : ℕ → ℕ → ℕ → ℕ → ℕ → Item) (a b c d e : Opti
 range5 make h b c d e all = search (arith, first_of_three)
 
 kept_lt : (t : Bool) (limit n m : ℕ) → nat_lt m limit ≡ t → (if t then Some m else None) ≡ Some n → n < limit
-kept_lt true limit n m is e = let same : m ≡ n = cc in omega (arith, same, ltb-true m limit is)
-kept_lt false limit n m is e = absurd (cc)
+kept_lt t limit n m is e = search (arith, ltb-true)
 
 below_lt : (limit n : ℕ) (o : Option ℕ) → below limit o ≡ Some n → n < limit
-below_lt limit n None e = absurd (cc)
-below_lt limit n (Some m) e = kept_lt (nat_lt m limit) limit n m refl e
+below_lt limit n o e = search (arith, kept_lt)
 
 two_range : (started : Bool) (w a : List ℕ) → IfOk (item_of_two started w a) IsInRange
 two_range started w a = search (arith, if_range, range1, below_lt)
@@ -119,8 +109,7 @@ words_range version started (w ∷ more) =
 
 -- The numbers of the item that a line says are within the ranges of their places.
 line_range : (version : ℕ) (started : Bool) (line : List ℕ) → IfOk (item_of_line version started line) IsInRange
-line_range version started [] = tt
-line_range version started (b ∷ bs) = if_range (b == 35) _ _ tt (words_range version started (words_of (b ∷ bs)))
+line_range version started line = search (arith, if_range, words_range)
 
 -- ==== The items of a text have passed their checks, and there are no more of them than lines after the first.
 
@@ -136,8 +125,7 @@ ok_is : {A B : Type 0} {x y : A} → (let a : Result A B = Ok x in a) ≡ Ok y �
 ok_is h = cc
 
 kept_none : (i j : Item) (o : Option Reason) → kept i o ≡ Ok j → (i ≡ j) × (o ≡ None)
-kept_none i j None e = (ok_is e, refl)
-kept_none i j (Some r) e = absurd (cc)
+kept_none i j o e = search arith
 
 -- An item that is in range and was checked has passed.
 passed : (f : Profile) (earlier : List Item) (r : Result Item Reason) (i : Item) → IfOk r IsInRange → checked f earlier r ≡ Ok i → IsPassed f earlier i
@@ -154,8 +142,7 @@ next_read : (h : Header) (number : ℕ) (earlier items : List Item) (line : List
     → AreRead h.profile items (length (i ∷ earlier) + length lines))
     → AreChecked h.profile earlier
     → AreRead h.profile items (length earlier + length (line ∷ lines))
-next_read h number earlier items line lines (Err r) is e more before = absurd (cc)
-next_read h number earlier items line lines (Ok i) is e more before = search (arith, passed, line_range)
+next_read h number earlier items line lines r is e more before = search (arith, passed, line_range)
 
 all_read : (h : Header) (number : ℕ) (earlier items : List Item) (lines : List (List ℕ)) → AreChecked h.profile earlier
     → items_from h number earlier lines ≡ Ok items → AreRead h.profile items (length earlier + length lines)

@@ -1,5 +1,5 @@
 -- What an item keeps that passed its checks.
-use Rattle.std.proofs.Common.{◌≡◌, ℕ, ◌*◌, ◌^◌, ◌<◌, ◌≤◌, nat_le, nat_lt, Bool, true, false, not, if◌then◌else◌, List, [], ◌∷◌, Option, None, Some, refl, arith}
+use Rattle.std.proofs.Common.{◌≡◌, ℕ, ◌*◌, ◌<◌, ◌≤◌, nat_le, nat_lt, Bool, true, false, not, if◌then◌else◌, List, [], ◌∷◌, Option, None, Some, arith}
 use Rattle.std.proofs.{Common.{MatchOption, ltb-true, leb-true}, lemmas.Bool.and_parts}
 use Rattle.pas_profile.specs.{Classes.IsAlignment, Profiles.IsValid, declared.profile.Profile.Profile}
 use Rattle.pas_trace.specs.{Wishes.{Sizing, heap_in, sizing_in, name_made, name_freed, holds_of, IsFit, IsFitSizing}, Reasons.{first_failed, is_alignment}}
@@ -12,8 +12,7 @@ AreHeld [] = Unit {0}
 AreHeld (c ∷ cs) = (c.0 ≡ true) × AreHeld cs
 
 first_holds : (c : Bool) (r : Reason) (cs : List (Bool × Reason)) → first_failed ((c, r) ∷ cs) ≡ None → (c ≡ true) × (first_failed cs ≡ None)
-first_holds true r cs e = (refl, e)
-first_holds false r cs e = absurd (cc)
+first_holds c r cs e = search arith
 
 all_hold : (cs : List (Bool × Reason)) → first_failed cs ≡ None → AreHeld cs
 all_hold [] e = tt
@@ -30,13 +29,11 @@ aligns a e = search (arith, and_parts)
 
 -- What tests as not so is false.
 pub is_not : (t : Bool) → not t ≡ true → t ≡ false
-is_not true e = absurd (cc)
-is_not false e = refl
+is_not t e = search arith
 
 -- A choice that has something has it because its test holds.
 pub if_some : {A : Type 0} (t : Bool) (o : Option A) (x : A) → (if t then o else None) ≡ Some x → (t ≡ true) × (o ≡ Some x)
-if_some true o x e = (refl, e)
-if_some false o x e = absurd (cc)
+if_some t o x e = search arith
 
 pub record FineCounts (f : Profile) (items : List Item) (i : Item) : Type 0 where
   pub few : operations_in items < 1000000
@@ -76,8 +73,7 @@ guard_passed f items n e = search (arith, passes, and_parts)
 
 -- ---- what any item gives
 pub actor_within : (f : Profile) (items : List Item) (i : Item) → reason_of f items i ≡ None → actor_of i ≤ f.threads
-actor_within f items (Operates t w) e = (own_passed f items t w e).thread.1
-actor_within f items i e = omega arith
+actor_within f items i e = search (arith, own_passed)
 
 -- An operation that passed its checks keeps all counts within their bounds.
 pub counts_within : (f : Profile) (items : List Item) (i : Item) → is_operation i ≡ true → reason_of f items i ≡ None → FineCounts f items i
@@ -86,8 +82,7 @@ counts_within f items i o e = search (arith, own_passed, counts_fit, passes)
 -- ---- tests of a value that may be there
 pub held_both : {A : Type 0} (o : Option A) (test other : A → Bool) (P : A → Type 0) → ((x : A) → test x ≡ true → other x ≡ true → P x) → holds_of test o ≡ true
     → holds_of other o ≡ true → MatchOption o (Unit {0}) P
-held_both None test other P all a b = tt
-held_both (Some x) test other P all a b = all x a b
+held_both o test other P all a b = search arith
 
 fit_sizing : (f : Profile) → IsValid f → (s : Sizing) → nat_le s.size (4096 * f.pages) ≡ true → is_alignment s.align ≡ true → IsFitSizing f s
 fit_sizing f valid s size align =

@@ -1,5 +1,5 @@
 -- The room that a free names: of whole grains, of one at least, and no larger than the region.
-use Rattle.std.proofs.Common.{◌≡◌, ℕ, ◌*◌, ◌%◌, ◌≤◌, Some, arith}
+use Rattle.std.proofs.Common.{ℕ, ◌*◌, ◌≤◌, Some, arith}
 use Rattle.pas_profile.{specs.{Profiles.IsValid, Requests.room_in, declared.profile.Profile.Profile}, proofs.Sizes.{route_is, class_known, class_size-grains}}
 use Rattle.pas_profile.proofs.Sizes.{class_grains_positive, class_grains_le}
 use Rattle.pas_trace.specs.EveryPlan.{IsRoomNamed}

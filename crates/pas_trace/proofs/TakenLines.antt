@@ -1,10 +1,9 @@
 -- A text whose lines are taken as its bytes come.
-use Rattle.std.proofs.Common.{arith, ◌≡◌, ◌≢◌, ◌≤◌, ℕ, ◌+◌, ◌++◌, List, [], ◌∷◌, Option, None, Some, Result, Ok, Err, refl, sym, ap, subst, ◌∙◌, true}
-use Rattle.std.proofs.Common.{append_assoc, length-append}
+use Rattle.std.proofs.Common.{arith, ◌≡◌, ◌≢◌, ℕ, ◌+◌, ◌++◌, List, [], ◌∷◌, Option, Result, Ok, Err, refl, ap, subst, ◌∙◌, true, append_assoc, length-append}
 use Rattle.pas_trace.specs.declared.{header.Header.Header, item.Item.Item, reader.Reader.Reader, fault.{TraceFault.TraceFault, ReadFault.ReadFault}}
 use Rattle.pas_trace.specs.{declared.{fault.ReadFault.TheVariants.{Trace, NoMemory}, script.Script.Script, stream.Lines.Lines}, Texts.{lines_of, IsWhole}}
 use Rattle.pas_trace.specs.{Scripts.{IsScriptOf, IsScripting}, Told.{Tells, AreTaken, IsRead, IsBegun, IsScripted}, Plans.{IsReading, Parsed, parsed}}
-use Rattle.pas_trace.specs.{Plans.{parsed_lines, with_header, with_items, items_from, line_of_newest}, Streams.{HasReadText, AreLinesOf, AreLinesAfter}}
+use Rattle.pas_trace.specs.{Plans.{parsed_lines, with_header, with_items, items_from}, Streams.{HasReadText, AreLinesOf, AreLinesAfter}}
 use Rattle.pas_trace.proofs.{LexedLines.{items-more, items-fault}, Gathering.text-scripted}
 use Rattle.pas_trace.specs.declared.stream.Lines.TheVariants as kind
 
@@ -15,13 +14,7 @@ module _ (P : List ℕ → Result Parsed TraceFault) (r : Reader) (items : List 
   goes-on : (new : Reader) (t : AreTaken r items xs new (Ok tt)) (rest : List ℕ)
       → P rest ≡ with_items new.header (items_from new.header (new.line + 1) t.0 (lines_of rest))
   goes-on new t rest =
-      let line : r.line ≡ line_of_newest items = tells.line in
-      let line' : new.line ≡ line_of_newest t.0 = t.2.line in
-      let taken : items_from r.header (line_of_newest items + 1) items xs ≡ Ok t.0 = ap (λ n. items_from r.header (n + 1) items xs) (sym line) ∙ t.1 in
-      goes rest ∙ ap (λ n. with_items r.header (items_from r.header (n + 1) items (xs ++ lines_of rest))) line
-      ∙ ap (with_items r.header) (items-more r.header items xs (lines_of rest) t.0 taken)
-      ∙ ap (λ n. with_items r.header (items_from r.header (n + 1) t.0 (lines_of rest))) (sym line')
-      ∙ ap (λ (h : Header). with_items h (items_from h (new.line + 1) t.0 (lines_of rest))) (sym t.3)
+      search (arith, items-more)
 
   -- .. of which one has a fault
   goes-wrong : (fault : TraceFault) → items_from r.header (r.line + 1) items xs ≡ Err fault → (rest : List ℕ) → P rest ≡ Err fault
@@ -29,13 +22,11 @@ module _ (P : List ℕ → Result Parsed TraceFault) (r : Reader) (items : List 
 
 -- ---- the first lines of a text
 with-fault : (h : Header) (read : Result (List Item) TraceFault) (fault : TraceFault) → with_items h read ≡ Err fault → read ≡ Err fault
-with-fault h (Err other) fault e = let same : other ≡ fault = cc in ap Err same
-with-fault h (Ok items) fault e = absurd (cc)
+with-fault h read fault e = search arith
 
 header-fault : (h : Option Header) (lines more : List (List ℕ)) (fault : TraceFault) → with_header h lines ≡ Err fault
     → with_header h (lines ++ more) ≡ Err fault
-header-fault None lines more fault e = e
-header-fault (Some h) lines more fault e = ap (with_items h) (items-fault h 2 [] lines more fault (with-fault h (items_from h 2 [] lines) fault e))
+header-fault h lines more fault e = search (arith, items-fault, with-fault)
 
 lines-wrong : (lines more : List (List ℕ)) (fault : TraceFault) → lines ≢ [] → parsed_lines lines ≡ Err fault → parsed_lines (lines ++ more) ≡ Err fault
 lines-wrong [] more fault some e = absurd (some refl)
@@ -49,9 +40,7 @@ faulty-front text (Trace fault) whole some e rest = ap parsed_lines (whole rest)
 begun-goes : (text : List ℕ) (r : Reader) (left : List ℕ) → IsWhole text → IsBegun true text r left → (rest : List ℕ)
     → parsed (text ++ rest) ≡ with_items r.header (items_from r.header (r.line + 1) [] (lines_of left ++ lines_of rest))
 begun-goes text r left whole b rest =
-    ap parsed_lines (whole rest ∙ ap (λ ls. ls ++ lines_of rest) b.cut)
-    ∙ ap (λ h. with_header h (lines_of left ++ lines_of rest)) b.header
-    ∙ ap (λ n. with_items r.header (items_from r.header (n + 1) [] (lines_of left ++ lines_of rest))) (sym b.tells.line)
+    cc (whole rest)
 
 -- The lines after the header are the lines of the text.
 pub begun-lines : (text : List ℕ) (r : Reader) (left : List ℕ) (lines : Lines) → IsWhole text → IsBegun true text r left → AreLinesAfter r left lines
@@ -74,14 +63,12 @@ begun-lines text r left (kind.Faulty (Trace fault)) whole b after =
 -- What is said of a fault is said of no reader after it.
 pub read-no-more : (r new : Reader) (items : List Item) (text : List ℕ) (fault : ReadFault) → IsRead r items text new (Err fault)
     → IsRead r items text r (Err fault)
-read-no-more r new items text (Trace fault) h = h
-read-no-more r new items text NoMemory h = tt
+read-no-more r new items text fault h = search arith
 
 more-goes : (before text : List ℕ) (r : Reader) (h : HasReadText before r) → IsWhole text → (rest : List ℕ)
     → parsed ((before ++ text) ++ rest) ≡ with_items r.header (items_from r.header (r.line + 1) h.items (lines_of text ++ lines_of rest))
 more-goes before text r h whole rest =
-    ap parsed (append_assoc before text rest) ∙ h.goes (text ++ rest)
-    ∙ ap (λ ls. with_items r.header (items_from r.header (r.line + 1) h.items ls)) (whole rest)
+    simp (append_assoc, h.goes, whole)
 
 -- The lines of a text that follows one that was read are those of both.
 pub more-lines : (before text : List ℕ) (r : Reader) (lines : Lines) → IsWhole text → HasReadText before r → AreLinesAfter r text lines
@@ -110,7 +97,6 @@ rest-scripted before rest r new script h t made =
 -- .. which may want memory
 pub rest-failed : (before rest : List ℕ) (r new : Reader) (fault : ReadFault) (h : HasReadText before r) → IsRead r h.items rest new (Err fault)
     → IsScripting (before ++ rest) (Err fault)
-rest-failed before rest r new (Trace fault) h e = h.goes rest ∙ ap (with_items r.header) e
-rest-failed before rest r new NoMemory h e = tt
+rest-failed before rest r new fault h e = search arith
 
 -- ---- the bytes that come next

@@ -1,6 +1,6 @@
 -- The checks by what the reader keeps are those of the items before.
 use Rattle.std.proofs.Common.{◌≡◌, ℕ, ◌+◌, ◌*◌, nat_lt, nat_le, Bool, true, false, not, List, [], ◌∷◌, ◌++◌, Option, None, Some, Ok, refl, sym, ap, arith, ◌<◌}
-use Rattle.std.proofs.Common.{◌≤◌, ◌==◌, ◌&&◌, if◌then◌else◌, length, get_or, set, ◌∙◌, eq-eqb, ne_eqb, le-leb, ◌≢◌, ◌||◌, subst, add-one, leb-true, rules}
+use Rattle.std.proofs.Common.{◌≤◌, ◌==◌, ◌&&◌, if◌then◌else◌, length, get_or, set, ◌∙◌, eq-eqb, ne_eqb, le-leb, subst, add-one, leb-true, rules}
 use Rattle.std.proofs.{Math.ListN.length-set, lemmas.{Bool.{cases_eq, and_parts}, Nat.mul-le}}
 use Rattle.pas_trace.specs.Wishes.{heap_in, sizing_in, name_made, name_freed, holds_of, is_large, asks_pages, heap_by, heap_made, is_name, IsFit}
 use Rattle.pas_trace.specs.Reasons.{first_failed, is_thread, is_alignment, guard_after, guard_in, cost_of, cost_of_wish, record_bound, few_enough, may_free}
@@ -9,12 +9,11 @@ use Rattle.pas_trace.specs.Reasons.{is_sampled, is_guarded, costs_of, cost_of_si
 use Rattle.pas_trace.specs.{Reasons.started, Items.item_of_line, Gathering.{HasGathered, Gathers, is_scripting}, Told.{few_told, told_checks, has_owner}}
 use Rattle.pas_trace.specs.Told.{may_free_told, Tells, TellsSamples, IsSampled, samples_next, keeper_told, owner_in, heap_told, NameTold, IsReady, CanSample}
 use Rattle.pas_trace.specs.{Told.{IsCounted, IsOperated, IsGuarding, IsAdded, IsNextPhase}, declared.{fault.Reason.Reason, item.Item.Item}}
-use Rattle.pas_trace.specs.declared.{item.{Item.TheVariants.{Guards, Operates, Scavenges, NextPhase}, Wish.{Wish, TheVariants.Remakes}}, reader.Reader.Reader}
-use Rattle.pas_trace.specs.declared.{samples.Samples.Samples, header.Header.Header, names.{Owner.Owner, Names.Names}, plan.{Chore.Chore, Op.Op, What.What}}
-use Rattle.pas_trace.specs.{declared.{plan.What.TheVariants.Remake, gathered.Gathered.Gathered}, Plans.{kept_costs, keeper_for, shared_by, phases_after}}
-use Rattle.pas_trace.specs.Plans.{phases_in, own_costs, bound_of, bounds_upto, operation, what_wished, what_of_chore, add_last, line_of_newest}
-use Rattle.pas_trace.proofs.{Costs.least_cost, Gathering.get_or-written, PassedChecks.{FineCounts, own_passed, guard_passed, actor_within, counts_within}}
-use Rattle.pas_trace.proofs.PassedChecks.{all_fit}
+use Rattle.pas_trace.specs.declared.{item.{Item.TheVariants.{Guards, Operates, Scavenges, NextPhase}, Wish.Wish}, reader.Reader.Reader, samples.Samples.Samples}
+use Rattle.pas_trace.specs.declared.{header.Header.Header, names.{Owner.Owner, Names.Names}, plan.{Chore.Chore, Op.Op, What.What}, gathered.Gathered.Gathered}
+use Rattle.pas_trace.specs.Plans.{kept_costs, keeper_for, shared_by, phases_after, phases_in, own_costs, bound_of, bounds_upto, operation, what_wished}
+use Rattle.pas_trace.{specs.Plans.{what_of_chore, add_last, line_of_newest}, proofs.{Costs.least_cost, Gathering.get_or-written, PassedChecks.FineCounts}}
+use Rattle.pas_trace.proofs.PassedChecks.{own_passed, guard_passed, actor_within, counts_within, all_fit}
 use Rattle.pas_profile.specs.{declared.profile.Profile.Profile, Profiles.IsValid}
 
 -- ---- the tables tell what the checks ask
@@ -25,8 +24,7 @@ bound-after r items i none t = search arith
 
 -- two tests that say the same of each value
 holds-same : {A : Type 0} (o : Option A) (test other : A → Bool) → ((x : A) → test x ≡ other x) → holds_of test o ≡ holds_of other o
-holds-same None test other same = refl
-holds-same (Some x) test other same = same x
+holds-same o test other same = search arith
 
 pub own-same : (r : Reader) (items : List Item) (t : ℕ) (w : Wish) → Tells r items
     → told_checks r (Operates t w) ≡ checks_of r.header.profile items (Operates t w)
@@ -63,12 +61,10 @@ passed-then ((false, r) ∷ cs) ds e = absurd (cc)
 -- ---- a count that is raised in one place
 raised_where : (on : Bool) (xs : List ℕ) (t k more n : ℕ) → t < length xs → get_or xs k 0 ≡ n
     → get_or (if on then set xs t (get_or xs t 0 + more) else xs) k 0 ≡ (if on && (t == k) then n + more else n)
-raised_where true xs t k more n lt told = search (arith, cases_eq, eq-eqb, get_or-written, ne_eqb)
-raised_where false xs t k more n lt told = told
+raised_where on xs t k more n lt told = search (arith, cases_eq, eq-eqb, get_or-written, ne_eqb)
 
 width_where : (on : Bool) (xs : List ℕ) (t x : ℕ) → length (if on then set xs t x else xs) ≡ length xs
-width_where true xs t x = length-set xs t x
-width_where false xs t x = refl
+width_where on xs t x = search (arith, length-set)
 
 -- ---- whether a request is guarded
 module _ (f : Profile) (s : Samples) (items : List Item) (told : TellsSamples f s items) where
@@ -94,8 +90,7 @@ sampled_small s t size within = search (arith, le-leb)
 
 -- ---- the counts are small
 large_is : (i : Item) → is_large_request i ≡ true → is_operation i ≡ true
-large_is (Operates t w) is = refl
-large_is i is = absurd (cc)
+large_is i is = search arith
 
 -- whichever way the test goes
 one_more : (large mine operates : Bool) (n m : ℕ) → (large ≡ true → operates ≡ true) → n ≤ m
@@ -108,12 +103,10 @@ few_larges t [] = omega arith
 few_larges t (i ∷ items) = one_more _ _ _ _ _ (large_is i) (few_larges t items)
 
 cheaper_item : (f : Profile) (guard : ℕ) (i : Item) → cost_of f 0 i ≤ cost_of f guard i
-cheaper_item f guard (Operates t w) = search (arith, least_cost)
-cheaper_item f guard i = omega arith
+cheaper_item f guard i = search (arith, least_cost)
 
 some_more : (on : Bool) (n m cost plain : ℕ) → plain ≤ cost → n ≤ m → (if on then n + plain else n) ≤ m + cost
-some_more true n m cost plain least le = omega (arith, least, le)
-some_more false n m cost plain least le = omega (arith, le)
+some_more on n m cost plain least le = search arith
 
 -- what keepers may make is counted among all costs
 pub few_kept : (f : Profile) (k : ℕ) (items : List Item) → kept_costs f k items ≤ costs_of f items
@@ -124,8 +117,7 @@ few_kept f k (i ∷ items) = some_more _ _ _ _ _ (cheaper_item f _ i) (few_kept 
 
 -- ---- costs
 if-le : (b : Bool) (x y z : ℕ) → x ≤ z → y ≤ z → (if b then x else y) ≤ z
-if-le true x y z p q = p
-if-le false x y z p q = q
+if-le b x y z p q = search arith
 
 -- an actor's own costs are among all
 pub own_costs-le : (f : Profile) (k : ℕ) (items : List Item) → own_costs f k items ≤ costs_of f items
@@ -156,8 +148,7 @@ heap-by-same heaps others a freed same = search arith
 
 what-same : (f : Profile) (heaps others : ℕ → ℕ) (keeper : Option ℕ) (w : Wish) → ((n : ℕ) → heaps n ≡ others n)
     → what_wished f heaps keeper w ≡ what_wished f others keeper w
-what-same f heaps others keeper (Remakes n o s a) same = ap (λ heap. Remake n o heap s a) (same o)
-what-same f heaps others keeper w same = refl
+what-same f heaps others keeper w same = search arith
 
 taken-by : (here : Bool) (t heap p : ℕ) (w : Wish) (items : List Item) (o o' : Owner) (n : ℕ) → heap_made (heap_of items) w ≡ heap
     → is_name (name_made w) n ≡ here → 1 ≤ t → o' ≡ (if here then record { thread = t; heap = heap; phase = p } else o) → NameTold o p items n
@@ -236,15 +227,7 @@ added_wish old new t w h =
     let f = old.header.profile in
     let cost = cost_of_wish old.samples.guard w in
     let what = what_wished f (heap_told old) (keeper_told old t w) w in
-    let op : (items : List Item) → Tells old items → reason_of f items (Operates t w) ≡ None → IsOperation f (heap_of items) (keeper_for f items (Operates t w)) old.samples.guard (Operates t w) t what cost = λ items told e. record {
-      operates = refl;
-      same_phase = refl;
-      same_guard = λ g. refl;
-      marks = λ m. refl;
-      thread = refl;
-      costs = refl;
-      phases = λ line ps. search (arith, keeper_same, small_thread, what-same);
-    } in
+    let op : (items : List Item) → Tells old items → reason_of f items (Operates t w) ≡ None → IsOperation f (heap_of items) (keeper_for f items (Operates t w)) old.samples.guard (Operates t w) t what cost = search (arith, keeper_same, small_thread, what-same) in
     added old new h.names h.samples (Operates t w) t what cost op (λ items told e n. taken-by _ t _ old.phase w items _ _ n
     (heap-by-same _ _ (heap_in w) (name_freed w) (λ m. (told.names m).heap)) refl (own_passed old.header.profile items t w e).thread.0 (h.given n)
     (told.names n))
@@ -286,8 +269,7 @@ none-costs f (i ∷ items) none =
     let no_cost : cost_of f (guard_in items) i ≡ 0 = search arith in omega (arith, no_cost, none-costs f items both.1)
 
 free-cost : (here : Bool) (n : ℕ) → n ≡ (if here then n + 0 else n)
-free-cost true n = omega arith
-free-cost false n = refl
+free-cost here n = search arith
 
 -- A line that sets the guard's number was added.
 numbered : (old new : Reader) (n : ℕ) → IsGuarding (record old { line = old.line + 1 }) new (Some n) → IsAdded old new (Guards (Some n))
@@ -397,8 +379,7 @@ pub renamed : (old mid new : Reader) (names : Names) (t name heap : ℕ) (w : Wi
     → ((n : ℕ) → owner_in names n ≡ (if n == name then record { thread = t; heap = heap; phase = old.phase } else owner_in old.names n))
     → IsCounted mid new t what cost → IsOperated old new t w cost
 renamed old mid new names t name heap w what cost made home none is same given counted =
-    named old mid new names old.samples t name heap w what cost made home (is ∙ ap (λ keeper. what_wished old.header.profile (heap_told old) keeper w)
-    (sym (no_keeper old t w none))) same (search arith) given counted
+    named old mid new names old.samples t name heap w what cost made home (cc (no_keeper old t w none)) same (search arith) given counted
 
 -- A wish that makes no name and asks for no pages is operated once its operation is counted.
 pub unnamed : (old mid new : Reader) (t : ℕ) (w : Wish) (what : What) (cost : ℕ) → None ≡ name_made w → asks_pages w ≡ false

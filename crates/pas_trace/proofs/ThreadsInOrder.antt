@@ -1,17 +1,15 @@
 -- Threads in order: which acts of theirs are left.
-use Rattle.std.proofs.Common.{◌≡◌, ℕ, zero, suc, ◌+◌, ◌-◌, ◌<◌, ◌≤◌, Bool, true, false, if◌then◌else◌, List, [], ◌∷◌, ◌++◌, map, length, refl, ap, sym, ◌∙◌}
-use Rattle.std.{proofs.Common.arith, specs.List.filter}
+use Rattle.std.proofs.Common.{arith, ◌≡◌, ℕ, zero, suc, ◌+◌, ◌-◌, ◌<◌, ◌≤◌, Bool, true, false, if◌then◌else◌, List, [], ◌∷◌, ◌++◌, map, length, refl, ap, sym}
+use Rattle.std.{proofs.Common.◌∙◌, specs.List.filter}
 use Rattle.pas_trace.specs.Acts.{Act, numbers_from, threads_where}
 
 -- the numbers that are left
 pub number_next : (k n m : ℕ) → n ≡ m + 1 → numbers_from k n ≡ k ∷ numbers_from (k + 1) m
-number_next k zero m is = absurd (omega (arith, is))
-number_next k (suc n) m is = ap (λ (x : ℕ). k ∷ numbers_from (k + 1) x) (omega (arith, is))
+number_next k n m is = search arith
 
 -- A list of no numbers, from whichever on, is empty.
 pub number_last : (k n : ℕ) → n ≡ 0 → numbers_from k n ≡ []
-number_last k zero is = refl
-number_last k (suc n) is = absurd (omega (arith, is))
+number_last k n is = search arith
 
 -- there are so many
 pub numbers_count : (k n : ℕ) → length (numbers_from k n) ≡ n

@@ -1,7 +1,7 @@
 -- Pieces, lines and words against places in the bytes.
 use Rattle.std.proofs.Common.{◌≡◌, ◌≢◌, ℕ, zero, suc, ◌+◌, ◌<◌, ◌≤◌, ◌==◌, Bool, true, false, if◌then◌else◌, List, [], ◌∷◌, take, drop, length, get_or, ◌-◌}
-use Rattle.std.proofs.Common.{refl, sym, ap, subst, ◌∙◌, arith, add-one, add-zero, length-drop, get_or-drop, eq-eqb, ne_eqb, nat_le, ◌++◌, leb-true}
-use Rattle.std.proofs.{Common.{take-append-drop, append-nil}, Math.Seq.drop-length, lemmas.{List.{take_rest, take_more, drop_more}, Bool.and_parts}}
+use Rattle.std.proofs.Common.{refl, sym, ap, ◌∙◌, arith, add-one, add-zero, length-drop, get_or-drop, eq-eqb, ne_eqb, nat_le, ◌++◌, leb-true, take-append-drop}
+use Rattle.std.proofs.{Common.append-nil, Math.Seq.drop-length, lemmas.{List.{take_rest, take_more, drop_more}, Bool.and_parts}}
 use Rattle.pas_trace.specs.{Texts.{put_first, pieces, without_empty_end, lines_of, without_empty, words_of}, Numbers.{is_digit, all_digits}}
 
 -- no byte among the first n is the separator
@@ -48,8 +48,7 @@ pieces-some s (b ∷ bs) = if-some (b == s) ([] ∷ pieces s bs) (put_first b (p
 
 -- ---- lines
 end-cons : (p q : List ℕ) (qs : List (List ℕ)) → without_empty_end (p ∷ q ∷ qs) ≡ p ∷ without_empty_end (q ∷ qs)
-end-cons [] q qs = refl
-end-cons (b ∷ bs) q qs = refl
+end-cons p q qs = search arith
 
 -- An empty end that falls away leaves the pieces before it as they are.
 pub end-after : (p : List ℕ) (s : ℕ) (bs : List ℕ) → without_empty_end (p ∷ pieces s bs) ≡ p ∷ without_empty_end (pieces s bs)
@@ -58,8 +57,7 @@ end-after p s bs =
     ap (λ ps. without_empty_end (p ∷ ps)) some.2 ∙ end-cons p some.0 some.1 ∙ sym (ap (λ ps. p ∷ without_empty_end ps) some.2)
 
 pub lines-last : (bs : List ℕ) → 0 < length bs → NoneBefore 10 bs (length bs) → lines_of bs ≡ bs ∷ []
-lines-last [] some none = absurd (omega arith)
-lines-last (b ∷ bs) some none = ap without_empty_end (pieces-whole 10 (b ∷ bs) none)
+lines-last bs given known = search (arith, pieces-whole)
 
 -- ---- words
 pub words-skip : (bs : List ℕ) (n : ℕ) → ((k : ℕ) → k < n → get_or bs k 0 ≡ 32) → n ≤ length bs → words_of bs ≡ words_of (drop n bs)
@@ -71,8 +69,7 @@ words-skip (b ∷ bs) (suc n) spaces le =
 
 -- A word of some bytes stays where empty ones fall away.
 pub keeps : (bs : List ℕ) (ps : List (List ℕ)) → 0 < length bs → without_empty (bs ∷ ps) ≡ bs ∷ without_empty ps
-keeps [] ps some = absurd (omega arith)
-keeps (b ∷ bs) ps some = refl
+keeps bs ps given = search arith
 
 words-last : (bs : List ℕ) → 0 < length bs → NoneBefore 32 bs (length bs) → words_of bs ≡ bs ∷ []
 words-last bs some none = ap without_empty (pieces-whole 32 bs none) ∙ keeps bs [] some
@@ -87,19 +84,14 @@ pub record FromWord (bs word : List ℕ) : Type 0 where
 pub from_word : (bs : List ℕ) (n : ℕ) → ((k : ℕ) → k < n → get_or bs k 0 ≡ 32) → n ≤ length bs → (n < length bs → get_or bs n 0 ≢ 32) → n ≢ length bs
     → FromWord bs (take (length bs - n) (drop n bs))
 from_word bs n spaces le ended ne =
-    let lt : n < length bs = omega (arith, ne) in
-    let r = take_rest bs n in
-    let head : get_or (drop n bs) 0 0 ≢ 32 = λ e. ended lt (ap (λ m. get_or bs m 0) (sym (add-zero n)) ∙ sym (get_or-drop n bs 0 0) ∙ e) in
-    let some : 0 < length (drop n bs) = omega (arith, length-drop n bs, lt) in
-    subst (λ w. FromWord bs w) (sym r) (record { words = words-skip bs n spaces le; some = some; head = head })
+    search (arith, take_rest, add-zero, get_or-drop, length-drop, words-skip)
 
 -- Where no space follows a word, it ends with the text.
 pub word-last : (bs w : List ℕ) (n : ℕ) → FromWord bs w → NoneBefore 32 w n → n ≡ length w → words_of bs ≡ w ∷ words_of (take (length w - n) (drop n w))
 word-last bs w n from none e = search (arith, take_rest, drop-length, words-last)
 
 some-before : (w : List ℕ) (n : ℕ) → get_or w 0 0 ≢ 32 → get_or w n 0 ≡ 32 → 0 < n
-some-before w zero head e = absurd (head e)
-some-before w (suc n) head e = omega arith
+some-before w n head e = search arith
 
 -- A word ends before the first space after it, and the other words follow.
 pub word-found : (bs w : List ℕ) (n : ℕ) → FromWord bs w → NoneBefore 32 w n → n ≤ length w → (n < length w → get_or w n 0 ≡ 32) → n ≢ length w
@@ -151,8 +143,7 @@ lines-until line rest whole = ap without_empty_end (pieces-until 10 line rest wh
 
 split-append : (t : Bool) (b : ℕ) (ps qs : List (List ℕ)) → ((q : List ℕ) × (rs : List (List ℕ)) × (ps ≡ q ∷ rs))
     → (if t then [] ∷ (ps ++ qs) else put_first b (ps ++ qs)) ≡ (if t then [] ∷ ps else put_first b ps) ++ qs
-split-append true b ps qs some = refl
-split-append false b ps qs some = ap (λ xs. put_first b (xs ++ qs)) some.2 ∙ sym (ap (λ xs. put_first b xs ++ qs) some.2)
+split-append t b ps qs given = search arith
 
 pieces-append : (s : ℕ) (xs ys : List ℕ) → pieces s (xs ++ s ∷ ys) ≡ pieces s xs ++ pieces s ys
 pieces-append s [] ys = pieces-at s s ys refl

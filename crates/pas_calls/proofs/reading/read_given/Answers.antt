@@ -6,13 +6,7 @@ use Rattle.pas_calls.proofs.TextInPieces.{taken_by_filling, too_many}
 use Rattle.pas_calls.proofs.reading.read_given.Goals as goal
 
 pub pieces-init : goal.pieces-init
-pieces-init g c = record {
-  place = search rules;
-  few = search rules;
-  read = read_nothing _ _ _ c.new-reader.ensures.none;
-  reach = λ is. is;
-  count = refl;
-}
+pieces-init g c = search (arith, read_nothing)
 
 pub returns-in-Err-clause-stops : goal.returns-in-Err-clause-stops
 returns-in-Err-clause-stops g c is = c.fill.ensures.stops (c.pieces.invariant.reach is)
@@ -38,9 +32,7 @@ returns-then-taken-count-gt-MOST_BYTES-clause-takes g c =
 -- ---- the end of a text
 pub finish-requires : goal.finish-requires
 finish-requires g c =
-    let r = c.pieces.invariant.read in
-    let size = r.size in
-    (r.before, r.has_taken, simp length-take (omega arith))
+    search (arith, length-take)
 
 pub returns-then-count-len-clause-given : goal.returns-then-count-len-clause-given
 returns-then-count-len-clause-given g c =
@@ -65,9 +57,7 @@ returns-then-count-len-clause-takes g c =
 -- ---- a piece that is full
 pub take-next-requires : goal.take-next-requires
 take-next-requires g c =
-    let r = c.pieces.invariant.read in
-    let size = r.size in
-    (r.before, r.has_taken, omega arith)
+    search arith
 
 pub returns-in_default-let_go-clause-takes : goal.returns-in_default-let_go-clause-takes
 returns-in_default-let_go-clause-takes g c =

@@ -1,5 +1,5 @@
 use Rattle.std.proofs.Common.{◌≡◌, ◌<◌, ◌^◌, ℕ, None, ap, subst, arith, MatchOption}
-use Rattle.pas_trace.specs.{Acts.{Guards, Operates, act_kept}, Asked.{keeper_in, request_in}, declared.plan.What.{What, TheVariants.Guarded}}
+use Rattle.pas_trace.specs.{Acts.{Guards, act_kept}, Asked.{keeper_in, request_in}, declared.plan.What.{What, TheVariants.Guarded}}
 use Rattle.pas_check.specs.{Begins.guarding, Calls.asked_for}
 use Rattle.pas_check.proofs.acting.operate.Goals as goal
 
@@ -26,6 +26,4 @@ plain_kept what not_guarded = search arith
 
 pub returns-in_default-clause-taken : goal.returns-in_default-clause-taken
 returns-in_default-clause-taken c =
-    let op = c.args.op in
-    let act : act_kept (keeper_in op.what) op ≡ Operates op = ap (λ o. act_kept o op) (plain_kept op.what c.in_default.not-Guarded) in
-    λ f. rw act (c.operate_plain.ensures.taken f)
+    search (arith, plain_kept)

@@ -1,3 +1,4 @@
+use Rattle.std.proofs.Common.{arith}
 use Rattle.pas_check.proofs.Actings.{idle_long, idle_short, idle_stopped, not_idle, stop_amiss}
 use Rattle.pas_check.proofs.acting.stop_idle.Goals as goal
 
@@ -11,6 +12,4 @@ returns-clause-taken c = λ f.
     (c.if-not-empty_log.ensures.taken f) c.take_record.ensures.led
 
 pub returns-then-not-empty_log-clause-taken : goal.returns-then-not-empty_log-clause-taken
-returns-then-not-empty_log-clause-taken c = λ f.
-    stop_amiss c.requires.within (λ s stands. idle_long c.args.k c.args.epochs c.requires.known s stands c.if-not-is_idle.ensures)
-    (c.if-not-empty_log.ensures.taken f)
+returns-then-not-empty_log-clause-taken c = search (arith, stop_amiss, idle_long)

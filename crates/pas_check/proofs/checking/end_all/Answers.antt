@@ -4,11 +4,7 @@ use Rattle.pas_check.{specs.Checks.threads_in, proofs.Actings.{nothing_taken, nu
 use Rattle.pas_check.proofs.checking.end_all.Goals as goal
 
 pub loop-index-init : goal.loop-index-init
-loop-index-init c = record {
-  sized = record { profile = refl; logs = refl; idle_since = refl; names = refl };
-  within = c.requires.within;
-  far = nothing_taken (search arith);
-}
+loop-index-init c = search (arith, nothing_taken)
 
 pub flush-requires-clause-within : goal.flush-requires-clause-within
 flush-requires-clause-within c = c.loop-index.invariant.within

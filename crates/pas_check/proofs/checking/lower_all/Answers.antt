@@ -1,15 +1,10 @@
-use Rattle.std.proofs.Common.{◌+◌, refl, arith}
+use Rattle.std.proofs.Common.{◌+◌, arith}
 use Rattle.pas_trace.specs.Acts.{Lowers}
 use Rattle.pas_check.{specs.Checks.threads_in, proofs.Actings.{nothing_taken, number_taken, numbers_taken, sized_on, stopped}}
 use Rattle.pas_check.proofs.checking.lower_all.Goals as goal
 
 pub loop-index-init : goal.loop-index-init
-loop-index-init c = record {
-  sized = record { profile = refl; logs = refl; idle_since = refl; names = refl };
-  within = c.requires.within;
-  after = omega (arith, c.threads_of-threads.ensures);
-  far = nothing_taken (search (arith, c.threads_of-threads.ensures));
-}
+loop-index-init c = search (arith, nothing_taken)
 
 pub lower-requires : goal.lower-requires
 lower-requires c = record { within = c.loop-index.invariant.within }
@@ -21,14 +16,7 @@ returns-then-not-lower-clause-taken c =
     c.if-not-lower.ensures.taken)
 
 pub loop-index-preserved : goal.loop-index-preserved
-loop-index-preserved c = record {
-  sized = sized_on c.loop-index.invariant.sized c.if-not-lower.ensures.sized;
-  within = c.if-not-lower.ensures.within;
-  after = omega (arith, c.loop-index.invariant.after);
-  far = number_taken Lowers c.loop-index.index (threads_in c.args.judge.now + c.args.keepers)
-      (omega (arith, c.loop-index-test.true, c.threads_of-threads.ensures)) c.loop-index.invariant.far
-      c.if-not-lower.ensures.taken;
-}
+loop-index-preserved c = search (arith, sized_on, number_taken)
 
 pub returns-clause-taken : goal.returns-clause-taken
 returns-clause-taken c =

@@ -1,4 +1,4 @@
-use Rattle.std.proofs.Common.{ℕ, not, ap, sym, ◌∙◌}
+use Rattle.std.proofs.Common.{arith, ℕ, not, ap, sym, ◌∙◌}
 use Rattle.pas_bits.specs.Masks.{is_set}
 use Rattle.pas_trace.specs.{Acts.threads_where, declared.plan.{Chore.Chore, Work.Work}}
 use Rattle.pas_check.{specs.Checks.threads_in, proofs.Actings.{act_taken, pass_taken, chore_taken, operation_taken}}
@@ -18,6 +18,4 @@ returns-in-Chore-Pass-clause-taken c = chore_taken (threads_where (λ k. not (is
     (sym c.work.ensures ∙ c.in-Chore-Pass.is ∙ ap Work.Chore c.in-Chore-Pass.field-0-is) (pass_taken c.pass.ensures.taken)
 
 pub returns-in-Chore-Idle-clause-taken : goal.returns-in-Chore-Idle-clause-taken
-returns-in-Chore-Idle-clause-taken c = chore_taken (threads_where (λ k. not (is_set c.args.awake k)) (threads_in c.args.judge.now)) c.args.op _
-    (sym c.work.ensures ∙ c.in-Chore-Idle.is ∙ ap Work.Chore (c.in-Chore-Idle.field-0-is ∙ ap (λ (n : ℕ). Chore.Idle n) (sym c.in-Chore-Idle.epochs-is)))
-    c.stop_all_idle.ensures.taken
+returns-in-Chore-Idle-clause-taken c = search (arith, chore_taken)

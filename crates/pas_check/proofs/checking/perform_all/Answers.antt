@@ -1,4 +1,4 @@
-use Rattle.std.proofs.Common.{ap, get_or, not, subst, sym, drop_of_length-le}
+use Rattle.std.proofs.Common.{arith, ap, get_or, not, subst, sym, drop_of_length-le}
 use Rattle.pas_bits.specs.Masks.{is_set}
 use Rattle.pas_profile.specs.{Profiles.IsValid, declared.profile.Profile.Profile}
 use Rattle.pas_machine.specs.Machines.{profile_of}
@@ -15,9 +15,7 @@ perform-requires-clause-sized c = sized_as_before c.loop-op.invariant.sized c.re
 
 pub perform-requires-clause-planned : goal.perform-requires-clause-planned
 perform-requires-clause-planned c =
-    let old = c.args.judge.now in
-    one_planned_as old c.loop-op.judge _ c.loop-op.invariant.sized
-    (ops_there (profile_of old.machine) (names_held old.names) c.args.ops.now c.loop-op.op-index c.loop-op-test.true c.loop-op.invariant.planned).0
+    search (arith, one_planned_as, ops_there)
 
 pub returns-then-not-perform-clause-taken : goal.returns-then-not-perform-clause-taken
 returns-then-not-perform-clause-taken c = stopped (then_taken _ (acts_at _ c.args.ops.now c.loop-op.op-index c.loop-op-test.true) c.loop-op.invariant.far

@@ -29,16 +29,8 @@ returns-then-not-stop_unless_awake-clause-taken c =
     c.loop-index.invariant.far c.if-not-stop_unless_awake.ensures.taken)
 
 pub loop-index-preserved : goal.loop-index-preserved
-loop-index-preserved c = record {
-  sized = sized_on c.loop-index.invariant.sized c.if-not-stop_unless_awake.ensures.sized;
-  within = c.if-not-stop_unless_awake.ensures.within;
-  far = then_taken _ (next_there (λ k. StopsIdle k c.args.epochs) (λ k. not (is_set c.args.awake k)) c.loop-index.index
-      (threads_in c.args.judge.now) [] (omega (arith, c.loop-index-test.true, c.threads_of-threads.ensures)))
-      c.loop-index.invariant.far c.if-not-stop_unless_awake.ensures.taken;
-}
+loop-index-preserved c = search (arith, sized_on, then_taken, next_there)
 
 pub returns-clause-taken : goal.returns-clause-taken
 returns-clause-taken c =
-    rw (none_left (λ k. StopsIdle k c.args.epochs) (λ k. not (is_set c.args.awake k)) c.loop-index.index (threads_in c.args.judge.now) []
-    (omega (arith, c.loop-index-test.false, c.threads_of-threads.ensures)))
-    at c.loop-index.invariant.far
+    search (arith, none_left)

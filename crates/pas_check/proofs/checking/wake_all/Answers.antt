@@ -1,14 +1,11 @@
-use Rattle.std.proofs.Common.{◌≡◌, ◌<◌, ◌+◌, true, false, [], refl, sym, ◌∙◌, arith, append-nil}
+use Rattle.std.proofs.Common.{◌≡◌, ◌<◌, ◌+◌, true, false, [], sym, ◌∙◌, arith, append-nil}
 use Rattle.pas_bits.specs.Masks.{is_set}
 use Rattle.pas_trace.{specs.Acts.Wakes, proofs.ThreadsInOrder.{next_chosen, next_passed, none_left}}
 use Rattle.pas_check.{specs.Checks.threads_in, proofs.{Actings.{act_taken, nothing_taken, sized_on, then_taken}, checking.wake_all.Goals.{then-get, else-get}}}
 use Rattle.pas_check.proofs.checking.wake_all.Goals as goal
 
 pub loop-index-init : goal.loop-index-init
-loop-index-init c = record {
-  sized = record { profile = refl; logs = refl; idle_since = refl; names = refl };
-  far = λ text at within. nothing_taken (search (arith, append-nil));
-}
+loop-index-init c = search (arith, nothing_taken, append-nil)
 
 pub wake-requires : goal.wake-requires
 wake-requires c = omega (arith, c.loop-index-test.true, c.threads_of-threads.ensures, c.requires.sized.idle_since, c.loop-index.invariant.sized.idle_since)

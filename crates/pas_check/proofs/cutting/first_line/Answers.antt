@@ -1,4 +1,4 @@
-use Rattle.std.proofs.{Common.{◌≡◌, ◌<◌, ◌+◌, length, take, get_or, true, ap, ◌∙◌, arith, eqb-true, take_all}, lemmas.List.{take_more, drop_all}}
+use Rattle.std.proofs.{Common.{◌≡◌, ◌<◌, ◌+◌, length, take, get_or, true, arith, eqb-true, take_all}, lemmas.List.{take_more, drop_all}}
 use Rattle.pas_check.{specs.Lines.is_line, proofs.Cuts.{front_before, front_ends, all_front, cut_first}}
 use Rattle.pas_check.proofs.cutting.first_line.Goals as goal
 
@@ -8,8 +8,7 @@ returns-in-Some-clause-some c =
     let n = c.in-Some.place in
     let at = c.in-Some.ensures in
     let high : n < length w = at.0.high in
-    let ends : is_line (take (n + 1) w) ≡ true = ap is_line (take_more w n 0 high)
-    ∙ front_ends (take n w) (get_or w n 0) (front_before w n at.0.before) (eqb-true (get_or w n 0) 10 at.1) in
+    let ends : is_line (take (n + 1) w) ≡ true = cc (take_more w n 0 high, front_ends (take n w) (get_or w n 0) (front_before w n at.0.before) (eqb-true (get_or w n 0) 10 at.1)) in
     (omega (arith, high), cut_first (n + 1) w ends)
 
 pub returns-in-None-clause-some : goal.returns-in-None-clause-some

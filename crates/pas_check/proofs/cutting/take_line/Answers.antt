@@ -12,13 +12,4 @@ returns-then-not-starts_with-clause-taken c rest has =
 
 pub returns-clause-taken : goal.returns-clause-taken
 returns-clause-taken c =
-    let rest_of = drop c.args.cursor.now.bytes c.args.text.now in
-    let starts = starts_is Decides-eqb rest_of c.args.wanted.now c.starts_with.result
-    (c.starts_with.ensures.value ∙ ap (λ w. starts_with eqb w c.args.wanted.now) (take_rest c.args.text.now c.args.cursor.now.bytes)) in
-    let some = line_some c.args.wanted.now c.requires.line in
-    let lines = c.requires.within.lines in
-    let bytes = c.requires.within.bytes in
-    let fits = c.starts_with.ensures.bound c.if-not-starts_with.false in (
-      cut_here c.args.text.now c.args.wanted.now c.args.cursor.now.bytes (starts.0 c.if-not-starts_with.false) c.requires.line,
-      record { bytes = omega (arith, bytes, fits); lines = omega (arith, lines, some); short = c.requires.within.short },
-    )
+    search (arith, starts_is, eqb, take_rest, line_some, cut_here)

@@ -1,6 +1,5 @@
 use Rattle.std.proofs.Common.{ap, arith, sym, ◌∙◌, Some}
 use Rattle.pas_check.proofs.OneNext.{record_is}
-use Rattle.pas_records.specs.Lines.{line_of}
 use Rattle.pas_check.proofs.examining.take_outcome.Goals as goal
 
 pub returns-clause-taken : goal.returns-clause-taken

@@ -1,4 +1,4 @@
-use Rattle.std.proofs.Common.{refl, ◌∙◌}
+use Rattle.std.proofs.Common.{arith, refl}
 use Rattle.pas_check.proofs.Stretches.{outcomes_begin, outcomes_lack, outcomes_more, outcomes_over}
 use Rattle.pas_check.proofs.examining.take_outcomes.Goals as goal
 
@@ -14,9 +14,4 @@ returns-in-None-clause-taken c =
     c.take_outcome.new.machine c.in-None.ensures.taken
 
 pub lines-preserved : goal.lines-preserved
-lines-preserved c = record {
-  profile = c.in-Some-take_outcome.ensures.profile ∙ c.lines.invariant.profile;
-  within = c.in-Some.ensures.within;
-  goes = outcomes_more c.lines.invariant.goes c.requires.valid c.lines.invariant.profile c.lines.invariant.within c.in-Some.ensures.some c.read.ensures
-      c.take_outcome.new.machine c.next_line.new.cursor c.in-Some-take_outcome.page refl c.next_line.ensures.count c.in-Some.ensures.within c.in-Some-take_outcome.ensures.taken;
-}
+lines-preserved c = search (arith, outcomes_more)

@@ -1,6 +1,5 @@
 use Rattle.std.proofs.Common.{arith}
 use Rattle.pas_check.proofs.Leads.{just_led}
-use Rattle.pas_records.specs.Lines.{line_of}
 use Rattle.pas_check.proofs.following.take_record.Goals as goal
 
 pub returns-clause-led : goal.returns-clause-led

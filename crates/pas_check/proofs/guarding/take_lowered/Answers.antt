@@ -1,4 +1,4 @@
-use Rattle.std.proofs.{Common.drop_of_length-le, lemmas.List.drop_more}
+use Rattle.std.proofs.{Common.{arith, drop_of_length-le}, lemmas.List.drop_more}
 use Rattle.pas_profile.specs.{Guards.raised_by, declared.guard.Raised.Raised}
 use Rattle.pas_check.proofs.Stretches.{sweep_begins, sweep_lowers, sweep_stays}
 use Rattle.pas_check.proofs.guarding.take_lowered.Goals.{else-goes_down-via-then-goes_down+else-not-take_record, else-goes_down-via-else-goes_down}
@@ -23,10 +23,7 @@ loop-guard-preserved c =
         within = w.if-not-take_record.ensures.within;
         goes = sweep_lowers before w.if-goes_down.ensures (rw w.lowered.ensures at w.if-not-take_record.ensures.led);
       }
-      | else-goes_down-via-else-goes_down w ↦ rw w.cursor-is record {
-        within = c.loop-guard.invariant.within;
-        goes = sweep_stays before w.if-goes_down.ensures;
-      }
+      | else-goes_down-via-else-goes_down w ↦ search (arith, sweep_stays)
     ]
 
 pub returns-clause-taken : goal.returns-clause-taken

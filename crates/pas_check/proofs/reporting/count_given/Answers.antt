@@ -10,11 +10,4 @@ overflow_add-given c =
 
 pub loop-before-preserved : goal.loop-before-preserved
 loop-before-preserved c =
-    record {
-      gave = λ es stands.
-          let one = c.given_there-given.ensures.given es stands in
-          let so_far = c.loop-before.invariant.gave es stands in
-          let more = given_more es c.loop-before.before in
-          omega (arith, one, so_far, more);
-      few = omega (arith, c.given_there-given.ensures.few, c.loop-before.invariant.few);
-    }
+    search (arith, given_more)

@@ -1,6 +1,5 @@
 use Rattle.std.proofs.Common.{arith}
 use Rattle.pas_check.proofs.OneNext.{ended_before, may_end, not_yet, other_room}
-use Rattle.pas_check.proofs.taking.reason_beside.Goals.{else-entry-gt0-via-then-entry-gt0+else-entry-block-3, else-entry-gt0-via-else-entry-gt0}
 use Rattle.pas_check.proofs.taking.reason_beside.Goals as goal
 
 pub returns-then-entry-block : goal.returns-then-entry-block

@@ -1,7 +1,7 @@
 use Rattle.std.proofs.Common.{◌≡◌, ◌≤◌, ◌^◌, List, [], length, ap, sym, arith}
 use Rattle.pas_profile.specs.declared.profile.Profile.{Profile}
 use Rattle.pas_machine.specs.Machines.{profile_of}
-use Rattle.pas_trace.{specs.{Acts.keepers_of, declared.plan.Phase.Phase}, proofs.{EveryPlan.every_plan, Keepers.keepers_few}}
+use Rattle.pas_trace.{specs.declared.plan.Phase.Phase, proofs.{EveryPlan.every_plan, Keepers.keepers_few}}
 use Rattle.pas_check.{specs.{Begins.report_due, Checks.IsSoFar, States.at_first}, proofs.Actings.{acts_amiss, acts_on, ended_well, goes_on, known}}
 use Rattle.pas_check.proofs.{Actings.{opening_within, plan_few, planned_there, report_amiss, reported}, whole.check.Goals.Else-not-take_acts}
 use Rattle.pas_check.proofs.whole.check.Goals as goal
@@ -65,7 +65,4 @@ returns c =
 
 pub take_acts-requires-clause-kept : goal.take_acts-requires-clause-kept
 take_acts-requires-clause-kept c =
-    let valid = (every_plan c.requires.plan.2).valid in
-    let few : keepers_of c.args.plan.now ≤ c.args.plan.now.profile.threads = keepers_few c.args.plan.now in
-    let count = ap (λ (f : Profile). f.threads) c.in-Ok.ensures.profile in
-    omega (arith, valid.threads, few, count, c.keeper_count-keepers.ensures)
+    search (arith, every_plan, keepers_few)

@@ -1,6 +1,5 @@
-use Rattle.std.proofs.{lemmas.{Grind.pow_more, Bool.Decides.nat_tests, List.{drop_more, drop_all}}, Common.{◌≡◌, ◌≤◌, true, refl, ◌+◌, ◌*◌, drop, get_or, sym}}
-use Rattle.std.proofs.Common.{ap, ◌∙◌, arith}
-use Rattle.pas_trace.{specs.Numbers.{is_hex, hex_value}, proofs.Digits.{some-tested, none-tested, hex_after, hex-stop, hex-room, hex-bound}}
+use Rattle.std.proofs.{lemmas.{Grind.pow_more, Bool.Decides.nat_tests, List.{drop_more, drop_all}}, Common.{◌≡◌, ◌≤◌, true, get_or, arith}}
+use Rattle.pas_trace.{specs.Numbers.{is_hex, hex_value}, proofs.Digits.{some-tested, none-tested, hex-stop, hex-room, hex-bound}}
 use Rattle.pas_trace.proofs.numbers.value_of_hex.Goals as goal
 
 pub returns-in_default-clause-value : goal.returns-in_default-clause-value
@@ -17,15 +16,7 @@ overflow_add-value c =
 
 pub loop-byte-preserved : goal.loop-byte-preserved
 loop-byte-preserved c =
-    let w = c.args.digits.now in
-    let i = c.loop-byte.byte-index in
-    let v = c.loop-byte.value in
-    let b = get_or w i 0 in
-    let d : (is_hex b ≡ true) × (c.in-Some.digit ≡ hex_value b) × (c.in-Some.digit ≤ 15) = search (arith, some-tested, nat_tests) in (
-      ap (λ x. hex_after (16 * v + x) (drop (i + 1) w)) d.1 ∙ sym (rw d.0 refl) ∙ sym (ap (hex_after v) (drop_more w i 0 c.loop-byte-test.true))
-          ∙ c.loop-byte.invariant.0,
-      omega (arith, pow_more 16 i, c.loop-byte.invariant.1, d.2),
-    )
+    search (arith, some-tested, nat_tests, drop_more, pow_more)
 
 pub returns-clause-small : goal.returns-clause-small
 returns-clause-small c = hex-bound c.loop-byte.value c.loop-byte.byte-index c.loop-byte.invariant.1 (omega arith)

@@ -1,33 +1,18 @@
-use Rattle.pas_trace.{proofs.LexedLines.{items-fault, at-first, left-is, lexed-now, after-lines, all-read, at-ok, none-of}, specs.Lexed.AreLexed}
-use Rattle.pas_trace.specs.{Texts.lines_of, Told.AreTaken, declared.item.Item.Item}
-use Rattle.std.proofs.{Common.{refl, ◌≡◌, ◌++◌, [], ℕ, List, subst, sym, ap, ◌∙◌, arith, append-nil}, lemmas.Result.err_from_is_err_and}
+use Rattle.pas_trace.{proofs.LexedLines.{items-fault, left-is, lexed-now, after-lines, all-read, at-ok, none-of}, specs.{Texts.lines_of, Told.AreTaken}}
+use Rattle.std.proofs.{Common.{◌≡◌, ◌++◌, [], ℕ, List, subst, sym, ap, ◌∙◌, arith, append-nil}, lemmas.Result.err_from_is_err_and}
 use Rattle.pas_trace.proofs.rounds.read_pieces.Goals as goal
 
 pub loop-rest-init : goal.loop-rest-init
 loop-rest-init g c =
-    let r = c.args.reader.now in
-    let text = c.args.text.now in
-    let piece = c.cut.result.0.now in
-    record {
-      piece = piece;
-      lexed = subst (λ (items : List Item). AreLexed r.header.version piece items piece) (sym c.clear.ensures.items)
-          (record { lines = []; cut = refl; say = λ started. refl; few = omega arith });
-      far = λ told t. left-is r r told (lines_of text) (lines_of text) (lines_of piece ++ lines_of c.cut.result.1.now) c.cut.ensures.lines (at-first r told (lines_of text) t);
-      size = omega (arith, c.requires.size, c.cut.ensures.bytes);
-    }
+    search arith
 
 pub take_lexed-requires-clause-tells : goal.take_lexed-requires-clause-tells
 take_lexed-requires-clause-tells g c =
-    let told = c.requires.tells in
-    let far = c.loop-rest.invariant.far told.0 told.1 in
-    (far.items, far.tells)
+    search arith
 
 pub take_lexed-requires-clause-lexed : goal.take_lexed-requires-clause-lexed
 take_lexed-requires-clause-lexed g c =
-    let h = c.loop-rest.invariant in
-    let told = c.requires.tells in
-    let same = (h.far told.0 told.1).header in
-    (h.piece, lexed-now c.args.reader.now c.loop-rest.reader h.piece _ _ _ same (sym c.deref-2.ensures.value) h.lexed, omega (arith, h.size))
+    search (arith, lexed-now)
 
 pub loop-rest-preserved : goal.loop-rest-preserved
 loop-rest-preserved g c =

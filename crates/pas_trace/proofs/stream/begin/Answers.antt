@@ -1,4 +1,4 @@
-use Rattle.std.proofs.Common.{◌++◌, take, ℕ, List, sym, subst, append-nil, arith, length-take}
+use Rattle.std.proofs.Common.{ℕ, List, sym, subst, append-nil, arith, length-take}
 use Rattle.pas_trace.specs.Streams.{AreLinesOf}
 use Rattle.pas_trace.specs.declared.stream.Lines.TheVariants as kind
 use Rattle.pas_trace.proofs.stream.begin.Goals as goal
@@ -14,8 +14,4 @@ pub first_lines-lines-requires-clause-some : goal.first_lines-lines-requires-cla
 first_lines-lines-requires-clause-some c = c.whole_lines-count.ensures.some (omega (arith, c.if-count-eq0.false))
 
 pub returns : goal.returns
-returns c = record {
-  within = c.whole_lines-count.ensures.within;
-  taken = λ before is. subst
-      (λ (t : List ℕ). AreLinesOf (t ++ take c.whole_lines-count.result c.args.text.now) c.first_lines-lines.result) (sym is) c.first_lines-lines.ensures;
-}
+returns c = search arith

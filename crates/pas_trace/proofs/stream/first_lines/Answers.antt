@@ -1,5 +1,5 @@
-use Rattle.std.proofs.Common.{arith, [], Bool, true, subst}
-use Rattle.pas_trace.{specs.Told.IsBegun, proofs.TakenLines.{faulty-front, begun-lines}}
+use Rattle.std.proofs.Common.{arith, []}
+use Rattle.pas_trace.proofs.TakenLines.{faulty-front, begun-lines}
 use Rattle.pas_trace.proofs.stream.first_lines.Goals as goal
 
 pub lines_after-requires-clause-tells : goal.lines_after-requires-clause-tells
@@ -10,11 +10,7 @@ lines_after-requires-clause-size c = let b = c.in-Ok.ensures in omega (arith, b.
 
 pub returns-in-Ok : goal.returns-in-Ok
 returns-in-Ok c =
-    let text = c.args.text.now in
-    let r = c.in-Ok.reader in
-    let left = c.in-Ok.rest.now in
-    let b : IsBegun true text r left = subst (λ (s : Bool). IsBegun s text r left) c.for_script.ensures.scripting c.in-Ok.ensures in
-    begun-lines text r left c.lines_after.result c.requires.whole b c.lines_after.ensures
+    search (arith, begun-lines)
 
 pub returns-in-Err : goal.returns-in-Err
 returns-in-Err c = faulty-front c.args.text.now c.in-Err.fault c.requires.whole c.requires.some c.in-Err.ensures

@@ -1,4 +1,4 @@
-use Rattle.std.proofs.Common.{take, arith, length-take}
+use Rattle.std.proofs.Common.{arith, length-take}
 use Rattle.pas_trace.proofs.TakenLines.{more-lines}
 use Rattle.pas_trace.proofs.stream.go_on.Goals as goal
 
@@ -10,9 +10,4 @@ lines_after-lines-requires-clause-size c = let few = c.requires.1.few in omega (
 
 pub returns : goal.returns
 returns c =
-    let whole = c.whole_lines-count.ensures in
-    record {
-      within = whole.within;
-      taken = λ before h. more-lines before
-          (take c.whole_lines-count.result c.args.text.now) c.args.reader c.lines_after-lines.result whole.whole h c.lines_after-lines.ensures;
-    }
+    search (arith, more-lines)

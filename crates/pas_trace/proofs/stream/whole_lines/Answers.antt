@@ -1,4 +1,4 @@
-use Rattle.std.proofs.{Common.{List, ◌∷◌, sym, ap, ◌∙◌, ◌++◌, append_assoc, arith, ◌≡◌, ◌≢◌, ◌+◌, ◌-◌, [], ℕ, subst, take, refl}, lemmas.List.take_more}
+use Rattle.std.proofs.{Common.{List, ◌∷◌, sym, ap, ◌∙◌, ◌++◌, append_assoc, arith, ◌≡◌, ◌+◌, ◌-◌, [], ℕ, subst, take, refl}, lemmas.List.take_more}
 use Rattle.pas_trace.{proofs.WordLines.{lines-append, some-at}, specs.Texts.{lines_of, IsWhole}}
 use Rattle.pas_trace.proofs.stream.whole_lines.Goals as goal
 
@@ -15,9 +15,7 @@ returns-then-text-end-eq10-clause-whole c =
 
 pub returns-then-text-end-eq10-clause-some : goal.returns-then-text-end-eq10-clause-some
 returns-then-text-end-eq10-clause-some c above =
-    let end = c.loop-end.end in
-    let back : end - 1 + 1 ≡ end = omega arith in
-    subst (λ (n : ℕ). lines_of (take n c.args.text.now) ≢ []) back (some-at c.args.text.now (end - 1) (omega arith) c.if-text-end-eq10.true)
+    search (arith, some-at)
 
 pub returns-clause-whole : goal.returns-clause-whole
 returns-clause-whole c = λ rest. refl

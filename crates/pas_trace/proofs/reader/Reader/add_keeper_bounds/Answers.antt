@@ -1,5 +1,5 @@
-use Rattle.pas_trace.{specs.{Reasons.actors_by, Plans.{bound_of, bounds_upto, kept_costs}}, proofs.Telling.{few_kept, bounds-more}}
-use Rattle.std.proofs.{Common.{ne_eqb, ◌≡◌, ◌+◌, get_or, ap, sym, ◌∙◌, arith}, lemmas.Bool.lt-leb}
+use Rattle.pas_trace.{specs.Plans.{bound_of, bounds_upto, kept_costs}, proofs.Telling.{few_kept, bounds-more}}
+use Rattle.std.proofs.{Common.{ne_eqb, ◌≡◌, ◌+◌, get_or, ap, ◌∙◌, arith}, lemmas.Bool.lt-leb}
 use Rattle.pas_trace.proofs.reader.Reader.add_keeper_bounds.Goals as goal
 
 pub overflow_add-self : goal.overflow_add-self
@@ -20,8 +20,7 @@ loop-thread-preserved c items t =
     bounds-more f items (f.threads + k) _ _ _ (c.loop-thread.invariant items t) bound c.in_ok-push.ensures.items ∙ ap (λ n. bounds_upto f items n) next
 
 pub returns-then-self-eq0 : goal.returns-then-self-eq0
-returns-then-self-eq0 c items t = c.requires.threads items t ∙ ap (λ guard. bounds_upto c.args.self.now.header.profile items
-    (actors_by guard c.args.self.now.header.profile.threads + 1)) (sym (sym t.samples.guard ∙ c.if-self-eq0.true))
+returns-then-self-eq0 c items t = cc (c.requires.threads items t)
 
 pub returns : goal.returns
 returns c items t = search (arith, ne_eqb)

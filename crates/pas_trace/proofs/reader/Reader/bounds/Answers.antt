@@ -1,5 +1,5 @@
-use Rattle.pas_trace.{proofs.Telling.{own_costs-le, bound-thread, bounds-more}, specs.Plans.own_costs}
-use Rattle.std.proofs.Common.{◌≡◌, ◌+◌, ◌∷◌, ◌++◌, [], get_or, ap, ◌∙◌, arith}
+use Rattle.pas_trace.proofs.Telling.{own_costs-le, bound-thread, bounds-more}
+use Rattle.std.proofs.Common.{◌+◌, ◌∷◌, ◌++◌, [], get_or, ap, ◌∙◌, arith}
 use Rattle.pas_trace.proofs.reader.Reader.bounds.Goals as goal
 
 pub overflow_add-self : goal.overflow_add-self
@@ -12,8 +12,4 @@ loop-thread-init c items t =
 
 pub loop-thread-preserved : goal.loop-thread-preserved
 loop-thread-preserved c items t =
-    let r = c.args.self.now in
-    let k = c.loop-thread.thread in
-    let cost : get_or r.counts.costs k 0 ≡ own_costs r.header.profile k items = t.costs k (omega arith) in
-    let bound = ap (λ n. r.header.profile.pages + n) cost ∙ bound-thread r.header.profile items k (omega arith) (omega arith) in
-    bounds-more r.header.profile items k _ _ _ (c.loop-thread.invariant items t) bound c.in_ok-push-2.ensures.items
+    search (arith, bound-thread, bounds-more)
