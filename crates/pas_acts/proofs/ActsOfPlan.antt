@@ -1,13 +1,12 @@
 -- The acts of a plan fit where its operations do, and cost no more than they, and one record for each phase and one for the close.
-use Rattle.std.proofs.Common.{if◌then◌else◌, [], ◌≡◌, ℕ, ◌+◌, ◌*◌, ◌<◌, ◌≤◌, ◌==◌, Bool, true, cond, List, ◌∷◌, ◌++◌, length, Option, refl, ap, arith}
-use Rattle.std.proofs.{Common.{append_assoc, map, MatchOption, eq-eqb}, Math.Nat.suc-mul}
-use Rattle.pas_acts.proofs.Common.{AllByRecursion, filter, Profile, all_ops, asked_with, asked_after, IsActorBy, IsActorOf, AreSound, records_of_ops, work_of}
-use Rattle.pas_acts.proofs.Common.{of_task, Chore, Work, Op, Act, Settles, MarksPhase, Wakes, Ends, Lowers, act_kept, numbers_from, idle_threads, acts_of_work}
-use Rattle.pas_acts.proofs.Common.{acts_of_op, acts_of_ops, phase_acts, close_acts, acts_from, acts_of, sum_both, all_front, all_back, all_any, all_of_chore}
-use Rattle.pas_acts.proofs.Common.{all_of_close, all_acts, KeepsAbove, AreFit, AreOfThreads, cost_of_what, cost_of_act, costs_of, own_cost_of_act, own_costs_of}
-use Rattle.pas_acts.proofs.Common.{unbacks_of_act, unbacks_of, sum_over, AreBelow}
-use Rattle.pas_trace.specs.{EveryPlan.{IsSoundWork, records_of_work, records_of_what, own_records}, Asked.request_of, Acts.{MarksClose, operation_in}}
-use Rattle.pas_trace.{specs.Acts.{active_threads, idle_stops}, proofs.ThreadsInOrder.numbers_count}
+use Rattle.std.proofs.Common.{if◌then◌else◌, [], ◌≡◌, ℕ, ◌+◌, ◌*◌, ◌<◌, ◌≤◌, Bool, true, cond, List, ◌∷◌, ◌++◌, length, Option, refl, arith, append_assoc}
+use Rattle.std.proofs.{Common.{append-nil, map, MatchOption}, Math.Nat.suc-mul}
+use Rattle.pas_acts.proofs.Common.{AllByRecursion, filter, Profile, all_ops, asked_with, asked_after, IsActorBy, IsActorOf, AreSound, work_of, of_task, Chore}
+use Rattle.pas_acts.proofs.Common.{Work, Op, Act, Settles, MarksPhase, Wakes, Ends, Lowers, act_kept, numbers_from, idle_threads, acts_of_work, acts_of_op}
+use Rattle.pas_acts.proofs.Common.{acts_of_ops, phase_acts, close_acts, acts_from, acts_of, sum_both, all_front, all_back, all_any, all_of_chore, all_of_close}
+use Rattle.pas_acts.proofs.Common.{all_acts, KeepsAbove, AreFit, AreOfThreads, cost_of_what, costs_of, sum_over, AreBelow}
+use Rattle.pas_trace.specs.{EveryPlan.{IsSoundWork, records_of_work}, Asked.request_of, Acts.{MarksClose, operation_in, active_threads}}
+use Rattle.pas_trace.proofs.ThreadsInOrder.{numbers_count}
 
 -- ---- so many threads
 one_chosen : (b : Bool) (k : ℕ) (chosen ks : List ℕ) → length chosen ≤ length ks → length (cond b (k ∷ chosen) chosen) ≤ length (k ∷ ks)
@@ -43,21 +42,17 @@ one_each : {A : Type 0} (cost : Act → ℕ) (to : A → Act) → ((x : A) → c
 one_each cost to one [] = refl
 one_each cost to one (x ∷ xs) = let this = one x in let rest = one_each cost to one xs in omega (arith, this, rest)
 
--- what operations cost together
-abbrev pub sum_of_ops : (Op → ℕ) → List Op → ℕ
-sum_of_ops most [] = 0
-sum_of_ops most (op ∷ ops) = most op + sum_of_ops most ops
-
--- each operation's acts cost at most `most` of it, and a mark `mark`
-module _ (f : Profile) (cost : Act → ℕ) (most : Op → ℕ) (mark : ℕ)
+-- each operation's acts cost at most `most` of it, which `sum` adds up, and a mark `mark`
+module _ (f : Profile) (cost : Act → ℕ) (most : Op → ℕ) (sum : List Op → ℕ) (mark : ℕ) (none : sum [] ≡ 0)
+    (next : (op : Op) (ops : List Op) → sum (op ∷ ops) ≡ most op + sum ops)
     (each : (idle : List ℕ) (op : Op) → length idle ≤ f.threads → IsActorOf f op.what op.actor → sum_over cost (acts_of_op idle op) ≤ most op)
     (wakes : (k : ℕ) → cost (Wakes k) ≡ 0) (ends : (k : ℕ) → cost (Ends k) ≡ 0) (lowers : (k : ℕ) → cost (Lowers k) ≡ 0)
     (phase : (n : ℕ) → cost (MarksPhase n) ≡ mark) (close : cost MarksClose ≡ mark) where
-  of_ops : (idle : List ℕ) (ops : List Op) → length idle ≤ f.threads → ArePlanned f ops → sum_over cost (acts_of_ops idle ops) ≤ sum_of_ops most ops
+  of_ops : (idle : List ℕ) (ops : List Op) → length idle ≤ f.threads → ArePlanned f ops → sum_over cost (acts_of_ops idle ops) ≤ sum ops
   of_ops idle [] few all = omega arith
-  of_ops idle (op ∷ ops) few all = let rest = of_ops idle ops few all.1 in search (arith, rest, sum_both)
+  of_ops idle (op ∷ ops) few all = let rest = of_ops idle ops few all.1 in let more = next op ops in search (arith, rest, more, sum_both)
 
-  of_phase : (ops : List Op) → ArePlanned f ops → sum_over cost (phase_acts f.threads ops) ≤ sum_of_ops most ops
+  of_phase : (ops : List Op) → ArePlanned f ops → sum_over cost (phase_acts f.threads ops) ≤ sum ops
   of_phase ops all =
       let both = sum_both cost (map Wakes (active_threads f.threads ops)) (acts_of_ops (idle_threads f.threads ops) ops) in
       omega (arith, free_map cost Wakes wakes (active_threads f.threads ops), of_ops (idle_threads f.threads ops) ops (idle_few f.threads ops) all, both)
@@ -65,19 +60,19 @@ module _ (f : Profile) (cost : Act → ℕ) (most : Op → ℕ) (mark : ℕ)
   of_close : (keepers : ℕ) → sum_over cost (close_acts f.threads keepers) ≡ mark
   of_close keepers = search (arith, free_map, sum_both)
 
-  ops_both : (xs ys : List Op) → sum_of_ops most (xs ++ ys) ≡ sum_of_ops most xs + sum_of_ops most ys
-  ops_both [] ys = omega arith
-  ops_both (x ∷ xs) ys = let rest = ops_both xs ys in omega (arith, rest)
+  ops_both : (xs ys : List Op) → sum (xs ++ ys) ≡ sum xs + sum ys
+  ops_both [] ys = omega (arith, none)
+  ops_both (x ∷ xs) ys = omega (arith, ops_both xs ys, next x xs, next x (xs ++ ys))
 
   of_later : (keepers n : ℕ) (phases : List (List Op)) → ArePlanned f (all_ops phases)
-      → sum_over cost (acts_from f.threads keepers n phases) ≤ sum_of_ops most (all_ops phases) + (length phases + 1) * mark
+      → sum_over cost (acts_from f.threads keepers n phases) ≤ sum (all_ops phases) + (length phases + 1) * mark
   of_later keepers n [] all = let last = of_close keepers in omega (arith, last)
   of_later keepers n (p ∷ ps) all =
       let rest = of_later keepers (n + 1) ps in grind (arith, rest, of_phase, all_front, all_back, sum_both, ops_both, suc-mul)
 
   -- The acts of a plan cost at most what its operations may, and a mark for each phase and one for the close.
   pub plan_sums_at_most : (keepers : ℕ) (phases : List (List Op)) → ArePlanned f (all_ops phases)
-      → sum_over cost (acts_of f.threads keepers phases) ≤ sum_of_ops most (all_ops phases) + (length phases + 1) * mark
+      → sum_over cost (acts_of f.threads keepers phases) ≤ sum (all_ops phases) + (length phases + 1) * mark
   plan_sums_at_most keepers [] all = let last = of_close keepers in omega (arith, last)
   plan_sums_at_most keepers (p ∷ ps) all = let marked = of_later keepers 1 (p ∷ ps) all in omega (arith, marked)
 
@@ -92,61 +87,30 @@ pub work_costs : (f : Profile) (idle : List ℕ) (op : Op) (work : Work) → wor
 work_costs f idle op work is few = search (arith, kept_cost, one_each)
 
 -- events of thread k
-own_cost : (t : Bool) (a b : ℕ) → a ≡ b → (if t then a else 0) + 0 ≤ (if t then b else 0)
+pub own_cost : (t : Bool) (a b : ℕ) → a ≡ b → (if t then a else 0) + 0 ≤ (if t then b else 0)
 own_cost t a b same = grind arith
 
 -- pages that the scavenger unbacks, which is actor 0
-its_own : (t : Bool) (n : ℕ) → t ≡ true → n ≤ (if t then 1 + n else 0)
+pub its_own : (t : Bool) (n : ℕ) → t ≡ true → n ≤ (if t then 1 + n else 0)
 its_own t n is = grind arith
-
--- ---- the plan's own sums
-records_sum : (f : Profile) (ops : List Op) → sum_of_ops (λ op. records_of_what f op.what) ops ≡ records_of_ops f ops
-records_sum f [] = refl
-records_sum f (op ∷ ops) = ap (λ n. records_of_what f op.what + n) (records_sum f ops)
-
-own_sum : (f : Profile) (k : ℕ) (ops : List Op) → sum_of_ops (λ op. if op.actor == k then records_of_what f op.what else 0) ops ≡ own_records f k ops
-own_sum f k [] = refl
-own_sum f k (op ∷ ops) = ap (λ n. (if op.actor == k then records_of_what f op.what else 0) + n) (own_sum f k ops)
-
--- The acts of a plan cost at most the records of its operations, one for each phase and one for the close.
-pub plan_costs : (f : Profile) (keepers : ℕ) (phases : List (List Op)) → ArePlanned f (all_ops phases)
-    → costs_of f.pages (acts_of f.threads keepers phases) ≤ records_of_ops f (all_ops phases) + (length phases + 1)
-plan_costs f keepers phases all =
-    let most = plan_sums_at_most f (cost_of_act f.pages) (λ op. records_of_what f op.what) 1 (λ idle op few is. work_costs f idle op (work_of op.what) refl few)
-    (λ k. refl) (λ k. refl) (λ k. refl) (λ n. refl) refl keepers phases all in
-    omega (arith, most, records_sum f (all_ops phases))
-
--- The acts of an actor cost at most the records that its operations may make.
-pub plan_owns : (f : Profile) (keepers k : ℕ) (phases : List (List Op)) → ArePlanned f (all_ops phases)
-    → own_costs_of k (acts_of f.threads keepers phases) ≤ own_records f k (all_ops phases)
-plan_owns f keepers k phases all =
-    let most = plan_sums_at_most f (own_cost_of_act k) (λ op. if op.actor == k then records_of_what f op.what else 0) 0
-    (λ idle op few is. search (arith, own_cost, free_map)) (λ j. refl) (λ j. refl) (λ j. refl) (λ n. refl) refl keepers phases all in
-    omega (arith, most, own_sum f k (all_ops phases))
-
--- The acts of a plan unback at most as many pages as the scavenger's operations may make records.
-pub plan_unbacks : (f : Profile) (keepers : ℕ) (phases : List (List Op)) → ArePlanned f (all_ops phases)
-    → unbacks_of f.pages (acts_of f.threads keepers phases) ≤ own_records f 0 (all_ops phases)
-plan_unbacks f keepers phases all =
-    let most = plan_sums_at_most f (unbacks_of_act f.pages) (λ op. if op.actor == 0 then records_of_what f op.what else 0) 0
-    (λ idle op few is. grind (arith, its_own, eq-eqb, free_map)) (λ j. refl) (λ j. refl) (λ j. refl) (λ n. refl) refl keepers phases all in
-    omega (arith, most, own_sum f 0 (all_ops phases))
 
 -- ---- what acts fit to
 -- what is said after operations and before the acts of those that follow
 abbrev pub Continues : Profile → ℕ → List Op → List Act → Type 0
 Continues f limit ops acts = (asked : List ℕ) → AreSound f asked ops → AllByRecursion (KeepsAbove f) ops → AreFit f limit asked acts
 
-skip_stops : (f : Profile) (limit : ℕ) (asked : List ℕ) (n : ℕ) (idle : List ℕ) (more : List Act) → AreFit f limit asked more
-    → AreFit f limit asked (idle_stops n idle ++ more)
-skip_stops f limit asked n [] more fit = fit
-skip_stops f limit asked n (k ∷ idle) more fit = skip_stops f limit asked n idle more fit
+-- acts that fit anywhere stand in front of others that fit
+fit_past : (f : Profile) (limit : ℕ) (asked : List ℕ) (to : ℕ → Act) (ks : List ℕ) (more : List Act)
+    → ((k : ℕ) (acts : List Act) → AreFit f limit asked acts → AreFit f limit asked (to k ∷ acts)) → AreFit f limit asked more
+    → AreFit f limit asked (map to ks ++ more)
+fit_past f limit asked to [] more past fit = fit
+fit_past f limit asked to (k ∷ ks) more past fit = past k (map to ks ++ more) (fit_past f limit asked to ks more past fit)
 
 -- Each work of an operation fits.
 fits : (f : Profile) (limit : ℕ) (asked : List ℕ) (op : Op) (work : Work) (idle : List ℕ) (more : List Act) → KeepsAbove f op → work_of op.what ≡ work
     → MatchOption (of_task request_of work) (Unit {0}) (λ r. r.name < limit) → IsActorBy f work op.actor → IsSoundWork f asked work
     → AreFit f limit (asked_with (of_task request_of work) asked) more → AreFit f limit asked (acts_of_work idle op work ++ more)
-fits f limit asked op work idle more above is below of sound fit = search (arith, skip_stops)
+fits f limit asked op work idle more above is below of sound fit = search (arith, fit_past)
 
 -- The acts of operations, and what follows them, fit where the names of all are below a limit.
 pub ops_fit : (f : Profile) (limit : ℕ) (idle : List ℕ) (ops rest : List Op) (more : List Act) → AreBelow limit (ops ++ rest) → Continues f limit rest more
@@ -155,21 +119,9 @@ ops_fit f limit idle [] rest more below go asked sound above = go asked sound ab
 ops_fit f limit idle (op ∷ ops) rest more below go asked sound above =
     let rest = ops_fit f limit idle ops rest more below.1 go _ sound.2 above.1 in search (arith, rest, append_assoc, fits)
 
-wakes_fit : (f : Profile) (limit : ℕ) (asked : List ℕ) (ks : List ℕ) (more : List Act) → AreFit f limit asked more → AreFit f limit asked (map Wakes ks ++ more)
-wakes_fit f limit asked [] more fit = fit
-wakes_fit f limit asked (k ∷ ks) more fit = wakes_fit f limit asked ks more fit
-
-lowers_fit : (f : Profile) (limit : ℕ) (asked : List ℕ) (ks : List ℕ) → AreFit f limit asked (map Lowers ks)
-lowers_fit f limit asked [] = tt
-lowers_fit f limit asked (k ∷ ks) = lowers_fit f limit asked ks
-
-ends_fit : (f : Profile) (limit : ℕ) (asked : List ℕ) (ks js : List ℕ) → AreFit f limit asked (map Ends ks ++ map Lowers js)
-ends_fit f limit asked [] js = lowers_fit f limit asked js
-ends_fit f limit asked (k ∷ ks) js = ends_fit f limit asked ks js
-
 phase_fit : (f : Profile) (limit threads : ℕ) (ops rest : List Op) (more : List Act) → AreBelow limit (ops ++ rest) → Continues f limit rest more
     → Continues f limit (ops ++ rest) (phase_acts threads ops ++ more)
-phase_fit f limit threads ops rest more below go asked sound above = search (arith, append_assoc, wakes_fit, ops_fit)
+phase_fit f limit threads ops rest more below go asked sound above = search (arith, append_assoc, fit_past, ops_fit)
 
 -- Later operations of those below a limit are below it.
 pub back_below : (limit : ℕ) (xs ys : List Op) → AreBelow limit (xs ++ ys) → AreBelow limit ys
@@ -178,7 +130,10 @@ back_below limit (x ∷ xs) ys all = back_below limit xs ys all.1
 
 later_fit : (f : Profile) (limit threads keepers n : ℕ) (phases : List (List Op)) → AreBelow limit (all_ops phases)
     → Continues f limit (all_ops phases) (acts_from threads keepers n phases)
-later_fit f limit threads keepers n [] below asked sound above = ends_fit f limit asked (numbers_from 1 threads) (numbers_from (threads + 1) keepers)
+later_fit f limit threads keepers n [] below asked sound above =
+    let lowers = map Lowers (numbers_from (threads + 1) keepers) in
+    fit_past f limit asked Ends (numbers_from 1 threads) lowers (λ k acts fit. fit)
+    (rw append-nil at (fit_past f limit asked Lowers (numbers_from (threads + 1) keepers) [] (λ k acts fit. fit) tt))
 later_fit f limit threads keepers n (p ∷ ps) below asked sound above =
     phase_fit f limit threads p (all_ops ps) _ below (later_fit f limit threads keepers (n + 1) ps (back_below limit p (all_ops ps) below)) asked sound above
 

@@ -210,7 +210,6 @@ module _ {f k σ σ' c c1 out out' later p : _} (at : RestsAt f k σ c out later
   stops act told reaches =
       let q = after_stop p k flush c1 told in
       let moves : Moves k (AtRest f c) (AtRest f c1) σ σ' p q = record { steps = flush; list_is = refl; calls = calls_so (may_stop at) did } in
-      let size = ap (λ (rs : List Record). length rs) quiet in
       record {
         reached = q;
         reaches = reaches;
@@ -225,7 +224,7 @@ module _ {f k σ σ' c c1 out out' later p : _} (at : RestsAt f k σ c out later
         books = refl;
         names = refl;
         epoch = refl;
-        paid = omega (arith, size, paid_so (may_stop at) did c1 refl);
+        paid = omega (arith, ap (λ (rs : List Record). length rs) quiet, paid_so (may_stop at) did c1 refl);
       }
 
   -- as the replay closes
@@ -351,9 +350,6 @@ has_tried {f} {k} {σ} {σ'} {book} {book'} {out} {out'} {p} {block} later r at 
     let mine : part k (after_trying p k tried).list ≡ steps ++ v = part_of_own k steps p.list in
     let owed = ap (λ (w : View). owed_by_keeper f (guards_in book') w) mine in
     let longer = ap (λ (rs : List Record). length rs) got.2 ∙ length-append (records_in out) got.0 in
-    let paid = got.3 in
-    let room = did.room in
-    let size = did.size in
     record {
       tried = tried;
       is = subst (λ (gs : List Guard). IsTried f k r v gs tried) (sym at.book) got.1;
@@ -363,15 +359,15 @@ has_tried {f} {k} {σ} {σ'} {book} {book'} {out} {out'} {p} {block} later r at 
       stands = record {
         sits = sits_owing later.events mine (sits_after s calls (omega (arith, few)));
         book = its_book p.books k (guards_in book');
-        spare = omega (arith, longer, at.spare, room, owed, paid, few_cost r.size block);
-        places = omega (arith, at.places, size, few_guards f k r v (guards_in book) tried got.1);
+        spare = omega (arith, longer, at.spare, did.room, owed, got.3, few_cost r.size block);
+        places = omega (arith, at.places, did.size, few_guards f k r v (guards_in book) tried got.1);
       };
       moves = record { steps = steps; list_is = refl; calls = calls };
       pushed = got.2;
-      room = room;
-      size = size;
+      room = did.room;
+      size = did.size;
       each = try_each f k r v (guards_in book) tried got.1;
-      paid = omega (arith, paid, owed);
+      paid = omega (arith, got.3, owed);
     }
 
 -- ---- the close
@@ -397,27 +393,24 @@ has_lowered {f} {k} {σ} {σ'} {book} {book'} {out} {out'} {later} {p} at did =
     let mine : part k q.list ≡ steps ++ v = part_of_own k steps p.list in
     let none = ap (λ (gs : List Guard). length gs) did.none in
     let longer = ap (λ (rs : List Record). length rs) did.added ∙ length-append (records_in out) did.said in
-    let few = did.few in
-    let room = did.room in
-    let size = did.size in
     record {
       reached = q;
       reaches = (q, (steps, did.said, subst (λ (gs : List Guard). IsLowered f k v gs steps did.said) (sym at.book) lowered, refl), refl);
       stands = record {
         sits = sits_owing later.events mine (sits_after s calls (omega (arith, silent, unknown)));
         book = its_book p.books k [] ∙ sym did.none;
-        spare = omega (arith, longer, at.spare, room, ap (λ (w : View). unknown_pages f w) mine, unknown, none, few);
-        places = omega (arith, none, at.places, size);
+        spare = omega (arith, longer, at.spare, did.room, ap (λ (w : View). unknown_pages f w) mine, unknown, none, did.few);
+        places = omega (arith, none, at.places, did.size);
       };
       none = did.none;
       moves = record { steps = steps; list_is = refl; calls = subst (λ (gs : List Guard). Calls σ σ' (FitsBook f (guards_in book)) (λ u w. FitsBook f gs w) steps) did.none calls };
       said = did.said;
       records_are = refl;
       pushed = did.added;
-      room = room;
-      size = size;
+      room = did.room;
+      size = did.size;
       each = swept_each true k (guards_in book) [] did.said steps lowered.sweep.swept;
-      few = few;
+      few = did.few;
       caches = refl;
       names = refl;
       books = λ j ne. other_book p.books k j [] ne;
@@ -428,15 +421,17 @@ pub can_scavenge : {f : Profile} {σ : Standing} {out : Records} {later : Later}
 can_scavenge {p = p} at = record { view = part 0 p.list; whole = p.list; stood = at.sits.stood; met = at.sits.rest }
 
 -- ---- after
--- there is room again, where the act pays for the events of its steps and for what is said
-room_again : {f : Profile} {σ σ' : Standing} {out out' : Records} {p q : Progress} (act : Act) (later : Later) → HasRoomAt f σ out (for_act f act later) p
-    → (moves : Moves 0 HasNothing HasNothing σ σ' p q) → (says : Says 0 out out' p q)
-    → length (events_by 0 (part 0 p.list) moves.steps) ≤ unbacks_of_act f.pages act → length says.said ≤ cost_of_act f.pages act → HasRoomAt f σ' out' later q
-room_again {f} {σ} {σ'} {out} {out'} {p} {q} act later at moves says few paid =
-    record {
+-- The scavenger did an act that pays for the events of its steps and for what is said: there is room again.
+has_done : {f : Profile} {σ σ' : Standing} {out out' : Records} {p q : Progress} (act : Act) (later : Later) → HasRoomAt f σ out (for_act f act later) p
+    → Reaches f (act ∷ []) p q → (moves : Moves 0 HasNothing HasNothing σ σ' p q) → (says : Says 0 out out' p q)
+    → length (events_by 0 (part 0 p.list) moves.steps) ≤ unbacks_of_act f.pages act → length says.said ≤ cost_of_act f.pages act
+    → q.caches ≡ p.caches → q.books ≡ p.books → q.names ≡ p.names → ScavengerActs f act σ σ' out out' later p
+has_done {f} {σ} {σ'} {out} {out'} {p} {q} act later at reaches moves says few paid caches books names =
+    let stands : HasRoomAt f σ' out' later q = record {
       sits = subst (λ (l : Whole). Sits f 0 HasNothing σ' l later.events) (sym moves.list_is) (sits_after at.sits moves.calls (omega (arith, few)));
       spare = omega (arith, ap (λ (rs : List Record). length rs) says.pushed ∙ length-append (records_in out) says.said, at.spare, says.room, paid);
-    }
+    } in
+    record { reached = q; reaches = reaches; stands = stands; moves = moves; says = says; caches = caches; books = books; names = names }
 
 -- A tick that was answered is an act of the scavenger.
 pub has_ticked : {f σ σ' out out' later p : _} (epoch : ℕ) → HasRoomAt f σ out (for_act f (Ticks epoch) later) p
@@ -447,7 +442,7 @@ has_ticked {f} {σ} {σ'} {out} {out'} {later} {p} epoch at ticks room =
     let q = after_tick p epoch ticks.answer in
     let moves : Moves 0 HasNothing HasNothing σ σ' p q = record { steps = steps; list_is = refl; calls = subst (λ (ms : List Made). Calls σ σ' HasNothing (λ v w. HasNothing w) ms) ticks.steps_are ticks.calls } in
     let says : Says 0 out out' p q = record { said = said; records_are = refl; pushed = cc (ticks.raised 0); room = room; each = (λ k. refl, tt) } in
-    record { reached = q; reaches = (q, (ticks.answer, refl), refl); stands = room_again (Ticks epoch) later at moves says (omega arith) (omega arith); moves = moves; says = says; caches = refl; books = refl; names = refl }
+    has_done (Ticks epoch) later at (q, (ticks.answer, refl), refl) moves says (omega arith) (omega arith) refl refl refl
 
 -- A pass that was answered is an act of the scavenger.
 pub has_passed : {f : Profile} {σ σ' : Standing} {spare spare' : ℕ} {found : List (ℕ × Outcome)} {out out' : Records} {later : Later} {p : Progress}
@@ -459,8 +454,7 @@ has_passed {f} {σ} {σ'} {spare} {spare'} {found} {out} {out'} {later} {p} at p
     let steps = pass.passes.steps in
     let said = records_of_pass 0 epoch found in
     let q = after_pass p epoch found steps in
-    let order : PassSteps f 0 epoch found steps = subst (λ (g : Profile). PassSteps g 0 epoch found steps) at.sits.profile
-    (subst (λ (k : ℕ). PassSteps σ.seat.profile k epoch found steps) at.sits.actor pass.passes.order) in
+    let order : PassSteps f 0 epoch found steps = rw (at.sits.actor, at.sits.profile) at pass.passes.order in
     let added : records_in out' ≡ records_in out ++ said = pass.added ∙ ap (λ (k : ℕ). records_in out ++ records_of_pass k epoch found) at.sits.actor in
     let moves : Moves 0 HasNothing HasNothing σ σ' p q = record { steps = steps; list_is = refl; calls = pass.passes.calls } in
     let says : Says 0 out out' p q = record { said = said; records_are = refl; pushed = added; room = room; each = pass_of 0 epoch found } in
@@ -468,24 +462,17 @@ has_passed {f} {σ} {σ'} {spare} {spare'} {found} {out} {out'} {later} {p} at p
     let size = length-map found (λ (x : ℕ × Outcome). record_of 0 epoch x.0 x.1) in
     let events = ap (λ (es : List Event). length es) (order.events (part 0 p.list)) in
     let few = few_unbacks 0 epoch (reverse found) in
-    record {
-      reached = q;
-      reaches = (q, (epoch, found, steps, order, refl), refl);
-      stands = room_again MakesPass later at moves says (omega (arith, events, few, length-reverse found, longer, size, short)) (omega (arith, longer, short));
-      moves = moves;
-      says = says;
-      caches = refl;
-      books = refl;
-      names = refl;
-    }
+    has_done MakesPass later at (q, (epoch, found, steps, order, refl), refl) moves says
+    (omega (arith, events, few, length-reverse found, longer, size, short)) (omega (arith, longer, short)) refl refl refl
 
 -- A look at the epoch is an act of the scavenger, which knows that epoch then.
 pub has_read : {f : Profile} {σ σ' : Standing} {out : Records} {later : Later} {p : Progress} (epoch : ℕ) → HasRoomAt f σ out (for_act f ReadsEpoch later) p
     → Makes σ σ' (Look Word.Epoch) epoch
     → (did : ScavengerActs f ReadsEpoch σ σ' out out later p) × (did.reached.epoch ≡ epoch)
+unfolding has_done
 has_read {f} {σ} {σ'} {out} {later} {p} epoch at makes =
     let q = after_reading p epoch in
     let moves : Moves 0 HasNothing HasNothing σ σ' p q = record { steps = epoch_look epoch; list_is = refl; calls = reads epoch makes } in
     let says : Says 0 out out p q =
     record { said = []; records_are = sym (append-nil p.records); pushed = sym (append-nil (records_in out)); room = refl; each = tt } in
-    (record { reached = q; reaches = (q, (epoch, refl), refl); stands = room_again ReadsEpoch later at moves says (omega arith) (omega arith); moves = moves; says = says; caches = refl; books = refl; names = refl }, refl)
+    (has_done ReadsEpoch later at (q, (epoch, refl), refl) moves says (omega arith) (omega arith) refl refl refl, refl)

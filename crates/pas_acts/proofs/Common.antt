@@ -10,7 +10,7 @@ pub use Rattle.pas_answers.specs.Answers.{Answer, Books, IsAnswered, IsStopped, 
 pub use Rattle.pas_answers.specs.Answers.{after_stop, after_tick, after_wake, answer_of, begun, epoch_look, having, named, records_of, said_by, settled}
 pub use Rattle.pas_answers.specs.{Answers.{standing_for, stopped, with_book}, Calls.{MayStand, OnlyAsked, block_behind, named_by, named_with, owed_events}}
 pub use Rattle.pas_answers.specs.{Calls.what_of, Fit.{AllBelow, AreBelow, AreFit, AreOfThreads, IsFitWhat, KeepsAbove, cost_of_act, cost_of_what, costs_of}}
-pub use Rattle.pas_answers.specs.{Fit.{own_cost_of_act, own_costs_of, sum_over, unbacks_of, unbacks_of_act}, Guarding.{IsLowered, IsTried, Tried, after_giving}}
+pub use Rattle.pas_answers.specs.{Fit.{own_cost_of_act, own_costs_of, sum_over, unbacks_of_act}, Guarding.{IsLowered, IsTried, Tried, after_giving}}
 pub use Rattle.pas_answers.specs.{Guarding.{after_lowering, after_trying}, Keeping.{cost_of_try, owed_by_keeper}, Names.{block_named, names_held}}
 pub use Rattle.pas_answers.specs.{PassRecords.records_of_pass, Reaching.{Advances, AnswersTried, Reaches}, Replays.{at_start, empty_cache, keepers_of}}
 pub use Rattle.pas_answers.specs.{Replays.{phases_of, region_of}, Ways.{AreSpoken, EachOf, records_by}, declared.names.Names.Names}
@@ -30,5 +30,4 @@ pub use Rattle.pas_trace.specs.{EveryPlan.{asked_by, asked_with, is_asked, opera
 pub use Rattle.pas_trace.specs.{Reasons.cost_of_size, declared.{item.Request.Request, plan.{Chore.Chore, Op.Op, Plan.Plan, What.{What, TheVariants.Alloc}}}}
 pub use Rattle.pas_trace.specs.declared.plan.Work.{Work}
 pub use Rattle.pas_utility.specs.Pools.{has_seat, outcomes_of, threads_of}
-pub use Rattle.std.proofs.lemmas.{Bool.{cases_eq, cases_lt, false≢true, or_parts}, List.{drop_more, get_or-replicate, get_or_past, length-map}}
-pub use Rattle.std.{proofs.lemmas.List.length-replicate, specs.List.{AllByRecursion, filter}}
+pub use Rattle.std.{proofs.lemmas.{Bool.{cases_eq, cases_lt, false≢true, or_parts}, List.{drop_more, length-map}}, specs.List.{AllByRecursion, filter}}

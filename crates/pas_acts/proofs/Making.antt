@@ -23,10 +23,9 @@ each_next {A} P n xs after x is many all this k d lt = search (arith, cases_lt, 
 pub next_room : {sizes : ℕ → Option ℕ} {count : ℕ} {rooms : List EventRoom} (after : List EventRoom) (room : EventRoom) → after ≡ rooms ++ room ∷ []
     → sizes count ≡ Some (size_of_room room) → shown room ≡ [] → AreRooms sizes count rooms → AreRooms sizes (count + 1) after
 next_room {sizes} {count} {rooms} after room is size empty made =
-    let many = made.many in
     record {
-      many = omega (arith, many, length-append rooms (room ∷ []), ap (λ rs. length rs) is);
-      each = each_next (λ k (r : EventRoom). sizes k ≡ Some (size_of_room r)) count rooms after room is many made.each size;
+      many = omega (arith, made.many, length-append rooms (room ∷ []), ap (λ rs. length rs) is);
+      each = each_next (λ k (r : EventRoom). sizes k ≡ Some (size_of_room r)) count rooms after room is made.many made.each size;
       empty = subst (All (λ room. shown room ≡ [])) (sym is) (All-push (λ room. shown room ≡ []) rooms room made.empty empty);
     }
 
@@ -42,10 +41,9 @@ none_unused caches none = record { many = ap (λ (cs : List ThreadCache). length
 pub next_unused : {count : ℕ} {caches : List ThreadCache} (after : List ThreadCache) (cache : ThreadCache) → after ≡ caches ++ cache ∷ []
     → cached cache ≡ empty_cache → AreUnused count caches → AreUnused (count + 1) after
 next_unused {count} {caches} after cache is empty made =
-    let many = made.many in
     record {
-      many = omega (arith, many, length-append caches (cache ∷ []), ap (λ (cs : List ThreadCache). length cs) is);
-      each = each_next (λ k (c : ThreadCache). cached c ≡ empty_cache) count caches after cache is many made.each empty;
+      many = omega (arith, made.many, length-append caches (cache ∷ []), ap (λ (cs : List ThreadCache). length cs) is);
+      each = each_next (λ k (c : ThreadCache). cached c ≡ empty_cache) count caches after cache is made.many made.each empty;
     }
 
 -- ---- counts
@@ -134,11 +132,10 @@ no_books places books none = search arith
 pub next_book : {many : ℕ} {places : ℕ → ℕ} {books : List GuardBook} (after : List GuardBook) (book : GuardBook) → after ≡ books ++ book ∷ []
     → guards_in book ≡ [] → size_of_book book ≡ places (many + 1) → AreBooksFor many places books → AreBooksFor (many + 1) places after
 next_book {many} {places} {books} after book is empty size made =
-    let count = made.many in
     record {
-      many = omega (arith, count, length-append books (book ∷ []), ap (λ (bs : List GuardBook). length bs) is);
-      empty = each_next (λ k (b : GuardBook). guards_in b ≡ []) many books after book is count made.empty empty;
-      places = each_next (λ k (b : GuardBook). size_of_book b ≡ places (k + 1)) many books after book is count made.places size;
+      many = omega (arith, made.many, length-append books (book ∷ []), ap (λ (bs : List GuardBook). length bs) is);
+      empty = each_next (λ k (b : GuardBook). guards_in b ≡ []) many books after book is made.many made.empty empty;
+      places = each_next (λ k (b : GuardBook). size_of_book b ≡ places (k + 1)) many books after book is made.many made.places size;
     }
 
 -- with other numbers that are the same

@@ -1,9 +1,9 @@
 -- The names of a phase: what they stand for to all and to each worker once it was done, how many there are, and what is known of them afterwards.
 use Rattle.std.proofs.Common.{if◌then◌else◌, [], arith, ◌≡◌, ◌≢◌, ℕ, ◌==◌, ◌||◌, Bool, false, inl, inr, List, ◌∷◌, Option, Some, None, refl, sym, ◌∙◌, subst}
 use Rattle.std.proofs.Common.{ne_eqb, ◌≤◌, ◌++◌, ◌<◌, true, length, ap, length-append, MatchOption, eq-eqb, true≢false}
-use Rattle.pas_acts.proofs.Common.{cases_eq, or_parts, AllByRecursion, Profile, Block, View, is_asked, asked_after, all_ops, asked_with, asked_by, AreSound}
-use Rattle.pas_acts.proofs.Common.{IsThread, What, Alloc, Op, Request, Act, Operates, Guards, Settles, act_kept, own_acts, request_in, keeper_in, Cached, Named}
-use Rattle.pas_acts.proofs.Common.{named, standing_for, having, Answer, answer_of, IsAnswered, Progress, IsFitWhat, AreBelow, AllBelow, KeepsAbove, AreFit}
+use Rattle.pas_acts.proofs.Common.{cases_eq, or_parts, AllByRecursion, Profile, Block, View, is_asked, asked_after, all_ops, asked_by, AreSound, IsThread, What}
+use Rattle.pas_acts.proofs.Common.{Alloc, Op, Request, Act, Operates, Guards, Settles, act_kept, own_acts, request_in, keeper_in, Cached, Named, named}
+use Rattle.pas_acts.proofs.Common.{standing_for, having, Answer, answer_of, IsAnswered, Progress, IsFitWhat, AreBelow, AllBelow, KeepsAbove, AreFit}
 use Rattle.pas_acts.proofs.Common.{own_costs_of, OnlyAsked, block_behind, MayStand, AnswersTried, Advances, block_named, names_held, at_start, Names, all_front}
 use Rattle.pas_acts.proofs.Common.{AreAmong, asked_after_act, requests_in, room_for, names_asked, names_of, ArePlaced, came_to, known_in, table, KnowsNames}
 use Rattle.pas_acts.{proofs.{Common.NameBook, ActsOfPlan.back_below, Noting.{is_same, not_before, kept_asks}, Working.kept_cost}, specs.Shares.IsRequestOf}
@@ -60,7 +60,7 @@ remade_same f k name size align (Some (Some old)) many few names v c a sub (inr 
     let came = block_of served.answer in (
       came,
       moved.names_are ∙ served.names_are,
-      subst (λ (o : Option (Option Block)). IsRemadeBy f k name size align o (having names v c) (answer_of a.steps a.said a.found (named name came ∷ names) a.cache)) (sym (sub (Some old) refl)) (inr record {
+      rw (sub (Some old) refl) (inr record {
         unsuited = moved.unsuited;
         of_region = moved.of_region;
         placed = answer_of moved.placed.steps moved.placed.said moved.placed.found (named name came ∷ names) moved.placed.cache;
@@ -138,8 +138,8 @@ known_op f op asked p q did known = search (arith, same_known, known_after)
 
 known_tried : (f : Profile) (op : Op) (r : Request) (block : Option Block) (asked : List ℕ) (p q : Progress) → request_in op.what ≡ Some r
     → AnswersTried f op r block p q → AreKnown asked p.names → AreKnown (asked_after op.what asked) q.names
-known_tried f op r (Some block) asked p q asks did known = subst (λ (o : Option Request). AreKnown (asked_with o asked) q.names) (sym asks)
-    (same_known (r.name ∷ asked) did (known_named r.name (Some block) asked p.names known))
+known_tried f op r (Some block) asked p q asks did known =
+    rw asks (same_known (r.name ∷ asked) did (known_named r.name (Some block) asked p.names known))
 known_tried f op r None asked p q asks did known = known_op f op asked p q did known
 
 known_one : (f : Profile) (act : Act) (asked : List ℕ) (p q : Progress) → Advances f act p q → AreKnown asked p.names
@@ -199,43 +199,23 @@ own_asked k (op ∷ ops) =
     let rest = own_asked k ops in grind (arith, rest, cases_eq, kept_cost, eq-eqb, some_cost, kept_asks, length-append, ne_eqb)
 
 -- ---- before a phase
-module _ {f : Profile} {ops : List Op} {book : NameBook} {p : Progress} {names : List Named} (book1 : NameBook) (requests : Requests)
-    (at : NamesAt f ops book p) (same : book1.names ≡ book.names) (none : requests_in requests ≡ []) (are : names ≡ p.names) where
-  only_book : (n : ℕ) → known_in book1 requests n ≡ block_named book.names n
-  only_book n = ap (λ (rs : List Named). came_to (standing_for rs n) (block_named book1.names n)) none ∙ ap (λ (t : Names). block_named t n) same
-
-  book_tells : (n : ℕ) → known_in book1 requests n ≡ block_behind (standing_for names n)
-  book_tells n = only_book n ∙ at.tells n ∙ ap (λ (ns : List Named). block_behind (standing_for ns n)) (sym are)
-
-  book_stands : (n : ℕ) → MayStand f (known_in book1 requests n)
-  book_stands n = subst (MayStand f) (sym (only_book n)) (at.stand n)
-
-  still_known : (n : ℕ) → is_asked at.asked n ≡ true → (block : Option Block) × (standing_for names n ≡ Some block)
-  still_known n is = let known = at.known n is in (known.0, ap (λ (ns : List Named). standing_for ns n) are ∙ known.1)
-
-  -- a thread with these acts, which fit
-  knows_by : (acts : List Act) → AreFit f (names_held book.names) at.asked acts → ArePlaced book1 0 (names_asked acts)
-      → length (names_asked acts) ≤ room_for requests → KnowsNames f acts (table book1 requests) names
-  knows_by acts fit placed room = record {
-    asked = at.asked;
-    fit = subst (λ (t : Names). AreFit f (names_held t) at.asked acts) (sym same) fit;
-    tells = book_tells;
-    stand = book_stands;
-    known = still_known;
-    placed = subst (λ (ns : List ℕ). ArePlaced book1 0 (ns ++ names_asked acts)) (sym (ap names_of none)) placed;
-    room = let size = ap (λ (rs : List Named). length rs) none in omega (arith, size, room);
-  }
-
 -- A thread of the phase knows its names once they are noted.
 pub names_before : {f book p names : _} (k : ℕ) (phase rest : List Op) (book1 : NameBook) (requests : Requests) (at : NamesAt f (phase ++ rest) book p)
     → 1 ≤ k → FreesItsOwn k at.asked phase → book1.names ≡ book.names
     → ArePlaced book1 0 (names_asked (own_acts k phase)) → requests_in requests ≡ [] → own_costs_of k (own_acts k phase) ≤ room_for requests → names ≡ p.names
     → KnowsNames f (own_acts k phase) (table book1 requests) names
-names_before {f} {book} k phase rest book1 requests at some frees same placed none room are =
-    knows_by book1 requests at same none are (own_acts k phase)
-    (own_fit f (names_held book.names) k at.asked at.asked phase some (λ n is. is) (sound_front f at.asked phase rest at.sound)
-    (all_front (KeepsAbove f) phase rest at.above) (below_front (names_held book.names) phase rest at.below) frees) placed
-    (omega (arith, own_asked k phase, room))
+names_before {f} {book} {p} {names} k phase rest book1 requests at some frees same placed none room are =
+    let only : (n : ℕ) → known_in book1 requests n ≡ block_named book.names n
+    = λ n. ap (λ (rs : List Named). came_to (standing_for rs n) (block_named book1.names n)) none ∙ ap (λ (t : Names). block_named t n) same in
+    record {
+      asked = at.asked;
+      fit = search (arith, own_fit, sound_front, all_front, below_front);
+      tells = λ n. only n ∙ at.tells n ∙ ap (λ (ns : List Named). block_behind (standing_for ns n)) (sym are);
+      stand = λ n. subst (MayStand f) (sym (only n)) (at.stand n);
+      known = subst (AreKnown at.asked) (sym are) at.known;
+      placed = subst (λ (ns : List ℕ). ArePlaced book1 0 (ns ++ names_asked (own_acts k phase))) (sym (ap names_of none)) placed;
+      room = omega (arith, ap (λ (rs : List Named). length rs) none, own_asked k phase, room);
+    }
 
 -- ---- before the first phase no name stands for a block
 unfoldable pub names_at_start : (f : Profile) (ops : List Op) (book : NameBook) → AreSound f [] ops → AllByRecursion (KeepsAbove f) ops

@@ -1,11 +1,11 @@
 -- What the names stand for to a thread, by the places of its requests; and those places, one after the other.
 use Rattle.std.proofs.Common.{if◌then◌else◌, [], ◌≡◌, ℕ, zero, suc, ◌+◌, ◌<◌, ◌≤◌, ◌==◌, Bool, true, false, List, ◌∷◌, ◌++◌, map, get_or, length, Option, Some}
 use Rattle.std.proofs.Common.{None, refl, ap, sym, ◌∙◌, subst, arith, append_assoc, append-nil, ne_eqb, eq-eqb, ◌≢◌, ◌||◌, take, replicate, length-append}
-use Rattle.std.proofs.{Common.{length-take, true≢false, drop}, lemmas.List.take_more}
-use Rattle.pas_acts.proofs.Common.{cases_eq, false≢true, cases_lt, or_parts, get_or-replicate, length-replicate, get_or_past, drop_more, Block, Profile, What}
-use Rattle.pas_acts.proofs.Common.{Op, Request as Asking, Act, act_kept, own_acts, is_asked, asked_with, asked_after, asked_by, AreSound, Named, named}
-use Rattle.pas_acts.proofs.Common.{standing_for, block_behind, MayStand, named_with, AreBelow, name_asked, names_asked, names_of, ArePlaced, named_of, came_to}
-use Rattle.pas_acts.{proofs.Common.NameBook, specs.{NameBooks.{name_asked_by, place_in, request_at, AreWithin}, declared.names.Request.Request}}
+use Rattle.std.proofs.{Common.{length-take, true≢false, drop}, lemmas.List.{take_more, get_or-replicate, length-replicate, get_or_past}}
+use Rattle.pas_acts.proofs.Common.{cases_eq, false≢true, cases_lt, or_parts, drop_more, Block, Profile, What, Op, Request as Asking, Act, act_kept, own_acts}
+use Rattle.pas_acts.proofs.Common.{is_asked, asked_with, asked_after, asked_by, AreSound, Named, named, standing_for, block_behind, MayStand, named_with}
+use Rattle.pas_acts.{proofs.Common.{AreBelow, name_asked, names_asked, names_of, ArePlaced, named_of, came_to, NameBook}, specs.NameBooks.name_asked_by}
+use Rattle.pas_acts.specs.{NameBooks.{place_in, request_at, AreWithin}, declared.names.Request.Request}
 use Rattle.pas_answers.specs.{Fit.IsBelow, Names.block_in}
 use Rattle.pas_trace.specs.EveryPlan.{IsSoundWhat}
 
@@ -75,24 +75,17 @@ at_place book i (r ∷ rs) n zero placed is = search (arith, before_none)
 at_place book i (r ∷ rs) n (suc j) placed is =
     let rest = at_place book (i + 1) rs n j placed.1 (omega (arith, is)) in grind (arith, rest, skip)
 
--- the request at a place of the room
-at_index : (items : List Request) (i n : ℕ) (d : Request) → i < length items
-    → request_at (map named_of items) i n ≡ (if (get_or items i d).name == n then Some (block_in (get_or items i d).meaning) else None)
-at_index [] i n d lt = absurd (omega (arith, lt))
-at_index (r ∷ items) zero n d lt = refl
-at_index (r ∷ items) (suc i) n d lt = at_index items i n d (omega (arith, lt))
+-- the request at a place of the room, by whether it has the name
+pub at_index : (items : List Request) (i n : ℕ) (d : Request) (b : Bool) → i < length items → ((get_or items i d).name == n) ≡ b
+    → request_at (map named_of items) i n ≡ (if b then Some (block_in (get_or items i d).meaning) else None)
+at_index [] i n d b lt is = absurd (omega (arith, lt))
+at_index (r ∷ items) zero n d b lt is = ap (λ (t : Bool). if t then Some (block_in r.meaning) else None) is
+at_index (r ∷ items) (suc i) n d b lt is = at_index items i n d b (omega (arith, lt)) is
 
 -- The request at a place whose name is asked about tells what came of it.
 pub at_named : (items : List Request) (i n : ℕ) (d : Request) → i < length items → (get_or items i d).name ≡ n
     → Some (block_in (get_or items i d).meaning) ≡ request_at (map named_of items) i n
-at_named items i n d lt same =
-    sym (at_index items i n d lt ∙ ap (λ (t : Bool). if t then Some (block_in (get_or items i d).meaning) else None) (eq-eqb (get_or items i d).name n same))
-
--- The request at a place with another name tells nothing of the one asked about.
-pub at_other : (items : List Request) (i n : ℕ) (d : Request) → i < length items → ((get_or items i d).name ≡ n → ⊥)
-    → None ≡ request_at (map named_of items) i n
-at_other items i n d lt other =
-    sym (at_index items i n d lt ∙ ap (λ (t : Bool). if t then Some (block_in (get_or items i d).meaning) else None) (ne_eqb (get_or items i d).name n other))
+at_named items i n d lt same = sym (at_index items i n d true lt (eq-eqb (get_or items i d).name n same))
 
 -- Past the last request nothing is told of a name.
 pub at_past : (items : List Request) (i n : ℕ) → length items ≤ i → request_at (map named_of items) i n ≡ None
@@ -243,9 +236,7 @@ placed_next f asked old new ops i d name place sound lt is sets count k placed =
     let a = (get_or ops i d).actor in
     let xs = asks k (take i ops) in
     let there = still_placed old new name place 0 xs sets (search (arith, not_asked, sound_at)) placed in
-    let here : a == k ≡ true → place_in new name ≡ length xs =
-    λ same. (sets name ∙ ap (λ (t : Bool). if t then place else place_in old name) (eq-eqb name name refl)) ∙ count
-    ∙ ap (λ (j : ℕ). length (asks j (take i ops))) (is_same a k same) in
+    let here : a == k ≡ true → place_in new name ≡ length xs = search (arith, eq-eqb, is_same) in
     subst (λ (ns : List ℕ). ArePlaced new 0 ns) (sym (asks_next k ops i d (name ∷ []) lt is)) (one_more (a == k) old new name xs here there)
 
 -- An operation that asks for a name makes the names of its actor one more, and of no other.

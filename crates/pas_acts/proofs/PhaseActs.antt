@@ -1,6 +1,6 @@
 -- The acts of a phase are shared among its workers; where one actor alone has operations in it, all acts of each stage are in one worker's hands.
-use Rattle.std.proofs.Common.{if◌then◌else◌, [], ◌≡◌, ℕ, zero, suc, ◌+◌, ◌-◌, ◌≤◌, ◌==◌, ◌||◌, not, Bool, true, false, List, ◌∷◌, ◌++◌, refl, ap, sym, subst}
-use Rattle.std.proofs.{Common.{◌∙◌, arith, MatchOption, eq-eqb, ne_eqb, le-leb, map, ◌≢◌, eqb-true}, lemmas.Bool.{lt-leb, or_left, or_right}}
+use Rattle.std.proofs.Common.{if◌then◌else◌, [], ◌≡◌, ℕ, zero, suc, ◌+◌, ◌-◌, ◌≤◌, ◌==◌, not, Bool, true, false, List, ◌∷◌, ◌++◌, refl, ap, sym, subst, ◌∙◌}
+use Rattle.std.proofs.{Common.{arith, MatchOption, eq-eqb, ne_eqb, le-leb, map, ◌≢◌}, lemmas.Bool.{lt-leb, or_left, or_right}}
 use Rattle.pas_acts.proofs.Common.{false≢true, cases_eq, or_parts, AllByRecursion, filter, Profile, all_both, work_of, of_task, keeper_of, keeper_in, AreSound}
 use Rattle.pas_acts.proofs.Common.{IsActorBy, asked_after, all_ops, AreKept, Chore, Work, Op, Act, Settles, is_active, numbers_from, idle_threads, acts_of_work}
 use Rattle.pas_acts.proofs.Common.{acts_of_op, acts_of_ops, own_acts, act_kept, Wakes, Ends, Lowers, close_acts, every_plan, all_of, all_any, all_of_chore}
@@ -68,12 +68,6 @@ work_is_of : (f : Profile) (idle : List ℕ) (op : Op) (work : Work) → IsActor
 work_is_of f idle op (Work.Own task) of = grind arith
 work_is_of f idle op (Work.Chore chore) of =
     all_of_chore (λ act. actor_of_act act ≡ op.actor) (λ k. Unit {0}) idle chore (λ epoch. sym of) (sym of) (sym of) (λ k n is. sym of) (all_any idle)
-
--- The acts of operations of one actor are of that actor.
-are_of : (f : Profile) (j : ℕ) (idle : List ℕ) (asked : List ℕ) (ops : List Op) → AreSound f asked ops → AllByRecursion (λ (op : Op). op.actor ≡ j) ops
-    → AreOf j (acts_of_ops idle ops)
-are_of f j idle asked ops sound own = all_of_kept f (λ act. actor_of_act act ≡ j) (λ op. op.actor ≡ j) idle
-    (λ op of is. subst (λ (i : ℕ). AreOf i (acts_of_op idle op)) is (work_is_of f idle op (work_of op.what) of)) asked ops sound own
 
 -- acts of an actor that is its own worker are that worker's, and nobody else's
 all_or_none : (owner : Owners) (j k : ℕ) (acts : List Act) → owner j ≡ j → AreOf j acts → acts_by owner k acts ≡ (if j == k then acts else [])
@@ -174,20 +168,11 @@ close_held threads keepers =
 -- ---- the acts of a phase of one actor
 active_is : (ops : List Op) (k j : ℕ) → AllByRecursion (λ (op : Op). op.actor ≡ k) ops → is_active ops j ≡ true → j ≡ k
 active_is [] k j own on = absurd (false≢true on)
-active_is (op ∷ ops) k j own on = at (active_is ops k j own.1) (op.actor == j) refl
-  where
-    at : (is_active ops j ≡ true → j ≡ k) → (b : Bool) → (op.actor == j) ≡ b → j ≡ k
-    at again true e = sym (eqb-true op.actor j e) ∙ own.0
-    at again false e = again (sym (ap (λ (t : Bool). t || is_active ops j) e) ∙ on)
+active_is (op ∷ ops) k j own on = let rest = active_is ops k j own.1 in grind (arith, rest, cases_eq, ne_eqb)
 
 wakes_held : (ops : List Op) (k : ℕ) (js : List ℕ) → AllByRecursion (λ (op : Op). op.actor ≡ k) ops → AreHeldBy itself k (map Wakes (filter (is_active ops) js))
 wakes_held ops k [] own = tt
-wakes_held ops k (j ∷ js) own = at (wakes_held ops k js own) (is_active ops j) refl
-  where
-    at : AreHeldBy itself k (map Wakes (filter (is_active ops) js)) → (b : Bool) → is_active ops j ≡ b
-        → AreHeldBy itself k (map Wakes (if b then j ∷ filter (is_active ops) js else filter (is_active ops) js))
-    at rest true on = (active_is ops k j own on, rest)
-    at rest false off = rest
+wakes_held ops k (j ∷ js) own = let rest = wakes_held ops k js own in grind (arith, rest, active_is)
 
 -- act by act: each is in the hands of the worker of its actor
 all_held : (owner : Owners) (k : ℕ) (acts : List Act) → AreInHand owner acts → AreOf k acts → AreHeldBy owner (owner k) acts
@@ -201,7 +186,9 @@ phase_held f asked ops sound kept one =
     let owner = owner_in f.threads ops in
     let idle = idle_threads f.threads ops in
     let hands = (acts_are_shared f f.threads asked ops sound kept (λ j on. active_within f asked ops j sound on)).0 in
-    ((k, wakes_held ops k _ one.own), ((owner k, all_held owner k (acts_of_ops idle ops) hands (are_of f k idle asked ops sound one.own)), tt))
+    let of = all_of_kept f (λ act. actor_of_act act ≡ k) (λ op. op.actor ≡ k) idle
+    (λ op by is. subst (λ (i : ℕ). AreOf i (acts_of_op idle op)) is (work_is_of f idle op (work_of op.what) by)) asked ops sound one.own in
+    ((k, wakes_held ops k _ one.own), ((owner k, all_held owner k (acts_of_ops idle ops) hands of), tt))
 
 -- ---- the phases of a plan, whose operations follow each other
 kept_front : (f : Profile) (guard : ℕ) (xs ys : List Op) → AreKept f guard (xs ++ ys) → AreKeptBehind f.threads xs
@@ -225,8 +212,7 @@ later_held f guard keepers n asked (p ∷ ps) sound kept one =
 all_phases_held : (f : Profile) (guard keepers : ℕ) (phases : List (List Op)) → AreSound f [] (all_ops phases) → AreKept f guard (all_ops phases)
     → AllByRecursion AreOfOneActor phases → AllByRecursion IsOneHanded (stages_of f.threads keepers phases)
 all_phases_held f guard keepers [] sound kept one = close_held f.threads keepers
-all_phases_held f guard keepers (p ∷ ps) sound kept one =
-    search (arith, phase_held, sound_front, kept_front, later_held, sound_back, kept_back, all_both)
+all_phases_held f guard keepers (p ∷ ps) sound kept one = (later_held f guard keepers 1 [] (p ∷ ps) sound kept one).1
 
 -- Where one actor alone has operations in a phase, the list is in the order of the acts.
 pub alone_in_order : AloneIsInOrder

@@ -1,16 +1,17 @@
 -- Each plan can be replayed: its operations follow one another, its bounds suffice for their records, and its keepers are asked for no more than they have room for.
 use Rattle.std.proofs.Common.{if◌then◌else◌, [], ◌≡◌, ◌≢◌, ◌∷◌, Option, Some, refl, ap, ◌∙◌, ℕ, ◌+◌, ◌*◌, ◌<◌, ◌≤◌, List, length, slice_index, arith, ◌^◌}
-use Rattle.std.proofs.Common.{MatchOption, ◌-◌, ◌==◌, Bool, subst, eq-eqb, ne_eqb, zero, suc, false, ◌++◌, sym, append_assoc, append-nil}
+use Rattle.std.proofs.Common.{MatchOption, ◌-◌, ◌==◌, Bool, eq-eqb, ne_eqb, zero, suc, false, ◌++◌, sym, append_assoc, append-nil}
 use Rattle.pas_acts.proofs.Common.{length-map, cases_eq, false≢true, AllByRecursion, IsValid, IsAdmitted, Profile, actors_by, IsPlanOf, ops_of, Act, Guards}
-use Rattle.pas_acts.proofs.Common.{acts_of_work, acts_of, work_of, of_task, keeper_of, keeper_in, request_in, all_ops, asked_after, IsThread, IsActorBy}
-use Rattle.pas_acts.proofs.Common.{IsActorOf, AreSound, AreKept, operations_of, Op, Work, Plan, Chore, every_plan, plan_actors, keepers_few, KeepsAbove, AreFit}
-use Rattle.pas_acts.proofs.Common.{AreOfThreads, costs_of, own_costs_of, unbacks_of, AllBelow, sum_over, phases_of, region_of, keepers_of, empty_cache}
-use Rattle.pas_acts.proofs.Common.{owed_events, AreSpoken, all_any, all_of_chore, all_of_close, all_acts, one_guarded, guarded_of, Record}
-use Rattle.pas_acts.proofs.ActsOfPlan.{ArePlanned, are_planned, plan_costs, plan_owns, plan_unbacks, acts_fit, of_threads, sum_of_ops, plan_sums_at_most}
-use Rattle.pas_acts.{proofs.{ActsOfPlan.free_map, Naming.{below_all, below_each}}, specs.{Shares.ArePhasesArranged, Tries.{tries_of_act, tries_of, IsKeptFor}}}
-use Rattle.pas_acts.specs.Tries.{AreKeptFor}
-use Rattle.pas_trace.{specs.{Plans.bounds_of, EveryPlan.{IsKept, kept_of_work, kept_records}}, proofs.EveryPlan.{threads_among, keepers_among}}
-use Rattle.pas_answers.specs.{Fit.{kept_cost_of, kept_cost_of_act, kept_costs_of}, Replays.{threads_of, acts_of_plan}, Ways.by_phases}
+use Rattle.pas_acts.proofs.Common.{acts_of_work, work_of, of_task, keeper_of, keeper_in, request_in, all_ops, asked_after, IsThread, IsActorBy, IsActorOf}
+use Rattle.pas_acts.proofs.Common.{AreSound, AreKept, operations_of, Op, Work, Plan, Chore, every_plan, plan_actors, keepers_few, KeepsAbove, AreFit}
+use Rattle.pas_acts.proofs.Common.{AreOfThreads, costs_of, own_costs_of, AllBelow, sum_over, phases_of, region_of, keepers_of, empty_cache, owed_events}
+use Rattle.pas_acts.proofs.Common.{AreSpoken, all_any, all_of_chore, all_of_close, all_acts, one_guarded, guarded_of, Record, own_cost_of_act, unbacks_of_act}
+use Rattle.pas_acts.proofs.{Common.{cost_of_act, records_of_ops}, ActsOfPlan.{ArePlanned, are_planned, acts_fit, of_threads, plan_sums_at_most, own_cost}}
+use Rattle.pas_acts.{proofs.{ActsOfPlan.{its_own, work_costs, free_map}, Naming.{below_all, below_each}}, specs.{Shares.ArePhasesArranged, Tries.tries_of_act}}
+use Rattle.pas_acts.specs.Tries.{tries_of, IsKeptFor, AreKeptFor}
+use Rattle.pas_answers.specs.{Fit.{unbacks_of, kept_cost_of, kept_cost_of_act, kept_costs_of}, Replays.{threads_of, acts_of_plan}, Ways.by_phases}
+use Rattle.pas_trace.{specs.{EveryPlan.{own_records, records_of_what, IsKept, kept_of_work, kept_records}, Plans.bounds_of}, proofs.EveryPlan.threads_among}
+use Rattle.pas_trace.proofs.EveryPlan.{keepers_among}
 use Rattle.pas_steps.specs.Unknown.{unknown_below}
 use Rattle.pas_cache.specs.Locals.{any_covers, any_keeps}
 use Rattle.pas_segregated.specs.declared.slots.Slots.{Slots}
@@ -86,18 +87,30 @@ plan_operate {text} {plan} is = of_threads plan.profile (keepers_of plan) (phase
 pub plan_own : {text : List ℕ} {plan : Plan} → IsPlanOf text plan → (k : ℕ) → 1 ≤ k → k ≤ threads_of plan
     → (region_of plan).pages + own_costs_of k (acts_of_plan plan) ≤ slice_index (bounds_of plan.bounds) k
 plan_own {text} {plan} is k some le =
-    omega (arith, plan_owns plan.profile (keepers_of plan) k (phases_of plan) (plan_planned is), (every_plan is).own k some le)
+    let f = plan.profile in
+    let most = plan_sums_at_most f (own_cost_of_act k) (λ op. if op.actor == k then records_of_what f op.what else 0) (own_records f k) 0 refl
+    (λ op ops. refl) (λ idle op few of. search (arith, own_cost, free_map)) (λ j. refl) (λ j. refl) (λ j. refl) (λ n. refl) refl (keepers_of plan)
+    (phases_of plan) (plan_planned is) in
+    omega (arith, most, (every_plan is).own k some le)
 
 -- .. that of the scavenger for its passes
 pub plan_scavenger : {text plan : _} → IsPlanOf text plan → unbacks_of (region_of plan).pages (acts_of_plan plan) ≤ slice_index (bounds_of plan.bounds) 0
 plan_scavenger {text} {plan} is =
-    omega (arith, plan_unbacks plan.profile (keepers_of plan) (phases_of plan) (plan_planned is), (every_plan is).scavenger)
+    let f = plan.profile in
+    let most = plan_sums_at_most f (unbacks_of_act f.pages) (λ op. if op.actor == 0 then records_of_what f op.what else 0) (own_records f 0) 0 refl
+    (λ op ops. refl) (λ idle op few of. grind (arith, its_own, eq-eqb, free_map)) (λ j. refl) (λ j. refl) (λ j. refl) (λ n. refl) refl (keepers_of plan)
+    (phases_of plan) (plan_planned is) in
+    omega (arith, most, (every_plan is).scavenger)
 
 -- .. and the total for those of all actors, with a record for each phase and one for the close
 pub plan_total : {text : List ℕ} {plan : Plan} → IsPlanOf text plan
     → (region_of plan).threads * (region_of plan).pages + costs_of (region_of plan).pages (acts_of_plan plan) ≤ plan.total + length (phases_of plan) + 1
 plan_total {text} {plan} is =
-    omega (arith, plan_costs plan.profile (keepers_of plan) (phases_of plan) (plan_planned is), (every_plan is).total)
+    let f = plan.profile in
+    let most = plan_sums_at_most f (cost_of_act f.pages) (λ op. records_of_what f op.what) (records_of_ops f) 1 refl (λ op ops. refl)
+    (λ idle op few of. work_costs f idle op (work_of op.what) refl few) (λ k. refl) (λ k. refl) (λ k. refl) (λ n. refl) refl (keepers_of plan)
+    (phases_of plan) (plan_planned is) in
+    omega (arith, most, (every_plan is).total)
 
 -- ---- how many keepers there are
 -- there are as many as threads in a guarded plan, and none in another
@@ -143,12 +156,6 @@ asked_of_act much k act = 0
 its_keeper : (threads actor k keeper : ℕ) → keeper ≡ threads + actor → (keeper == threads + k) ≡ (actor == k)
 its_keeper threads actor k keeper is = search (arith, cases_eq, eq-eqb, ne_eqb)
 
-module _ (much : Op → ℕ) (cost : Act → ℕ) (threads keepers k : ℕ) (same : (act : Act) → IsKeptFor threads keepers act → cost act ≡ asked_of_act much k act)
-  where
-    asked_sum : (acts : List Act) → AreKeptFor threads keepers acts → sum_over cost acts ≡ sum_over (asked_of_act much k) acts
-    asked_sum [] kept = refl
-    asked_sum (act ∷ acts) kept = let one = same act kept.0 in let rest = asked_sum acts kept.1 in omega (arith, one, rest)
-
 kept_same : (threads keepers k : ℕ) (act : Act) → IsKeptFor threads keepers act
     → kept_cost_of_act (threads + k) act ≡ asked_of_act (λ op. kept_cost_of (request_in op.what)) k act
 kept_same threads keepers k act kept = search (arith, its_keeper)
@@ -156,52 +163,49 @@ kept_same threads keepers k act kept = search (arith, its_keeper)
 tries_same : (threads keepers k : ℕ) (act : Act) → IsKeptFor threads keepers act → tries_of_act (threads + k) act ≡ asked_of_act (λ op. 1) k act
 tries_same threads keepers k act kept = search (arith, its_keeper)
 
-module _ (much most : Op → ℕ) (k : ℕ) (enough : (op : Op) (keeper : ℕ) → keeper_in op.what ≡ Some keeper → much op ≤ most op) where
+-- what the guarded requests of a plan cost its keeper by `cost`, which is `much` of each of thread k's, and at most `most`, which `sum` adds up
+module _ {text : List ℕ} {plan : Plan} (is : IsPlanOf text plan) (much most : Op → ℕ) (cost : Act → ℕ) (sum : List Op → ℕ) (k : ℕ)
+    (same : (act : Act) → IsKeptFor (threads_of plan) (keepers_of plan) act → cost act ≡ asked_of_act much k act)
+    (enough : (op : Op) (keeper : ℕ) → keeper_in op.what ≡ Some keeper → much op ≤ most op) (none : sum [] ≡ 0)
+    (next : (op : Op) (ops : List Op) → sum (op ∷ ops) ≡ (if op.actor == k then most op else 0) + sum ops) where
+  asked_sum : (acts : List Act) → AreKeptFor (threads_of plan) (keepers_of plan) acts → sum_over cost acts ≡ sum_over (asked_of_act much k) acts
+  asked_sum [] kept = refl
+  asked_sum (act ∷ acts) kept = let one = same act kept.0 in let rest = asked_sum acts kept.1 in omega (arith, one, rest)
+
   asked_work : (idle : List ℕ) (op : Op) (work : Work) → work_of op.what ≡ work
       → sum_over (asked_of_act much k) (acts_of_work idle op work) ≤ (if op.actor == k then most op else 0)
   asked_work idle op work is = search (arith, free_map)
 
-  asked_all : (f : Profile) (keepers : ℕ) (phases : List (List Op)) → ArePlanned f (all_ops phases)
-      → sum_over (asked_of_act much k) (acts_of f.threads keepers phases) ≤ sum_of_ops (λ op. if op.actor == k then most op else 0) (all_ops phases)
-  asked_all f keepers phases planned = search (arith, plan_sums_at_most, asked_work)
+  -- it is at most the sum of the plan's operations
+  asked_all : sum_over cost (acts_of_plan plan) ≤ sum (all_ops (phases_of plan))
+  asked_all =
+      let all = plan_sums_at_most plan.profile (asked_of_act much k) (λ op. if op.actor == k then most op else 0) sum 0 none next
+      (λ idle op few of. asked_work idle op (work_of op.what) refl) (λ j. refl) (λ j. refl) (λ j. refl) (λ n. refl) refl (keepers_of plan) (phases_of plan)
+      (plan_planned is) in
+      omega (arith, all, asked_sum (acts_of_plan plan) (plan_keeps is))
 
 -- ---- events
-kept_sum : (k : ℕ) (ops : List Op) → sum_of_ops (λ op. if op.actor == k then kept_of_work (work_of op.what) else 0) ops ≡ kept_records k ops
-kept_sum k [] = refl
-kept_sum k (op ∷ ops) = ap (λ n. (if op.actor == k then kept_of_work (work_of op.what) else 0) + n) (kept_sum k ops)
-
 -- the bound of a keeper suffices for the requests that it tries, and for a deed of each page
 kept_own : {text : List ℕ} {plan : Plan} → IsPlanOf text plan → (k : ℕ) → 1 ≤ k → k ≤ keepers_of plan
     → (region_of plan).pages + kept_costs_of (threads_of plan + k) (acts_of_plan plan) ≤ slice_index (bounds_of plan.bounds) (threads_of plan + k)
 kept_own {text} {plan} is k some within =
-    let f = plan.profile in
     let bound = (every_plan is).kept k (is_guarded plan (omega (arith, some, within))) some (omega (arith, within, keepers_few plan)) in
-    let same = asked_sum (λ op. kept_cost_of (request_in op.what)) (kept_cost_of_act (f.threads + k)) f.threads (keepers_of plan) k (kept_same f.threads (keepers_of plan) k) (acts_of_plan plan) (plan_keeps is) in
-    let all = asked_all (λ op. kept_cost_of (request_in op.what)) (λ op. kept_of_work (work_of op.what)) k
-    (λ op keeper asks. grind arith) f (keepers_of plan) (phases_of plan) (plan_planned is) in
-    omega (arith, bound, same, all, kept_sum k (all_ops (phases_of plan)))
+    let all = asked_all is (λ op. kept_cost_of (request_in op.what)) (λ op. kept_of_work (work_of op.what)) (kept_cost_of_act (threads_of plan + k))
+    (kept_records k) k (kept_same (threads_of plan) (keepers_of plan) k) (λ op keeper asks. grind arith) refl (λ op ops. refl) in
+    omega (arith, bound, all)
 
 -- What a keeper may cost, with the region's pages, is within its bound.
 pub plan_kept_own : {text : List ℕ} {plan : Plan} → IsPlanOf text plan → (k : ℕ) → threads_of plan < k → k ≤ (region_of plan).threads
     → (region_of plan).pages + kept_costs_of k (acts_of_plan plan) ≤ slice_index (bounds_of plan.bounds) k
 plan_kept_own {text} {plan} is k past within =
     let place : threads_of plan + (k - threads_of plan) ≡ k = omega (arith, past) in
-    subst (λ (n : ℕ). (region_of plan).pages + kept_costs_of n (acts_of_plan plan) ≤ slice_index (bounds_of plan.bounds) n) place
-    (kept_own is (k - threads_of plan) (omega (arith, past)) (omega (arith, past, within, plan_actors plan)))
+    rw place at (kept_own is (k - threads_of plan) (omega (arith, past)) (omega (arith, past, within, plan_actors plan)))
 
 -- ---- guards
-guarded_sum : (k : ℕ) (ops : List Op) → sum_of_ops (λ op. if op.actor == k then one_guarded (keeper_in op.what) else 0) ops ≡ guarded_of k ops
-guarded_sum k [] = refl
-guarded_sum k (op ∷ ops) = ap (λ n. (if op.actor == k then one_guarded (keeper_in op.what) else 0) + n) (guarded_sum k ops)
-
 -- a keeper tries no more requests than its book has places for
 pub plan_tries : {text plan : _} → IsPlanOf text plan → (k : ℕ) → tries_of (threads_of plan + k) (acts_of_plan plan) ≤ guarded_of k (operations_of plan)
-plan_tries {text} {plan} is k =
-    let f = plan.profile in
-    let same = asked_sum (λ op. 1) (tries_of_act (f.threads + k)) f.threads (keepers_of plan) k (tries_same f.threads (keepers_of plan) k) (acts_of_plan plan) (plan_keeps is) in
-    let all = asked_all (λ op. 1) (λ op. one_guarded (keeper_in op.what)) k (λ op keeper asks. grind arith) f (keepers_of plan) (phases_of plan)
-    (plan_planned is) in
-    omega (arith, same, all, guarded_sum k (all_ops (phases_of plan)))
+plan_tries {text} {plan} is k = asked_all is (λ op. 1) (λ op. one_guarded (keeper_in op.what)) (tries_of_act (threads_of plan + k)) (guarded_of k) k
+    (tries_same (threads_of plan) (keepers_of plan) k) (λ op keeper asks. grind arith) refl (λ op ops. refl)
 
 unknown_all : (n : ℕ) → unknown_below n [] ≡ n
 unknown_all zero = refl

@@ -1,15 +1,15 @@
 -- What workers did, each for itself, is put into the order of the acts: what a piece does to each one's share, and then the whole.
 use Rattle.std.proofs.Common.{if◌then◌else◌, [], arith, ◌≡◌, ◌≢◌, ℕ, ◌==◌, Bool, false, List, ◌∷◌, ◌++◌, refl, ap, sym, ◌∙◌, append-nil, ne_eqb, ◌+◌, true}
-use Rattle.std.proofs.Common.{Option, None, Some, inl, inr, append_assoc, max, subst, IsSomeAnd, eq-eqb}
-use Rattle.pas_acts.proofs.Common.{cases_eq, Whole, part, triples, made, events_by, View, Made, part_of_own, part_of_others, Record, Said, Cached, Named, Books}
+use Rattle.std.proofs.Common.{Option, None, Some, inl, inr, append_assoc, max, subst, eq-eqb}
+use Rattle.pas_acts.proofs.Common.{cases_eq, Whole, part, triples, made, events_by, View, Made, part_of_own, part_of_others, Record, Said, Cached, Named}
 use Rattle.pas_acts.proofs.Common.{with_book, Progress, named, having, answer_of, standing_for, IsAnswered, IsStopped, after_answer, after_wake, after_reading}
 use Rattle.pas_acts.proofs.Common.{after_tick, after_pass, after_stop, stopped, epoch_look, begun, records_of, said_by, EachOf, records_by, AreSpoken}
 use Rattle.pas_acts.proofs.Common.{records_of_pass, AreFit, IsFitWhat, OnlyAsked, Tried, IsTried, after_trying, after_giving, IsLowered, after_lowering}
 use Rattle.pas_acts.proofs.Common.{AnswersTried, Advances, Reaches, records_both, none_by, events_of_piece, pass_of, piece_of, swept_each, try_each, Guard}
 use Rattle.pas_acts.proofs.Common.{Profile, Block, Owners, AreAmong, actor_of_act, IsInHand, AreInHand, acts_by, asked_after_act, Op, Request, Act, Operates}
-use Rattle.pas_acts.proofs.{Common.{Guards, Settles, Ticks, MakesPass, ReadsEpoch, StopsIdle, Wakes, Ends, Lowers, request_in, asked_with}, Naming.retold}
-use Rattle.pas_acts.{proofs.Naming.names_new, specs.Shares.{in_hands, IsShareOf, Asks, IsWoven}}
-use Rattle.pas_answers.{specs.{Reaching.AnswersGuarded, Answers.{Caches, with_cache, with_records, with_steps, IsIdleFor}}, proofs.OwnRecords.spoken_piece}
+use Rattle.pas_acts.proofs.{Common.{Guards, Settles, Ticks, MakesPass, ReadsEpoch, StopsIdle, Wakes, Ends, Lowers, request_in}, Naming.{retold, names_new}}
+use Rattle.pas_acts.specs.Shares.{IsShareOf, Asks, IsWoven}
+use Rattle.pas_answers.{specs.{Reaching.AnswersGuarded, Answers.{with_cache, with_records, with_steps, IsIdleFor}}, proofs.OwnRecords.spoken_piece}
 use Rattle.pas_answers.proofs.OwnRecords.{spoken_both}
 use Rattle.pas_steps.specs.{Desks.triple, declared.step.Step.Step}
 use Rattle.pas_core.{specs.Orders.steps_by, proofs.Choosing.{step_passed, steps_by_both}}
@@ -27,24 +27,6 @@ steps_past chosen k (m ∷ steps) l other = step_passed chosen (triple k m) (tri
 
 -- ---- one thing of the two is changed, and stays shared
 module _ {owner : Owners} {w : ℕ} {own p : Progress} (share : IsShareOf owner w own p) where
-  -- all else is as the share has it
-  by_lists : (l m : Whole) → steps_by (in_hands owner w) l ≡ steps_by (in_hands owner w) m → ((j : ℕ) → owner j ≡ w → part j l ≡ part j m)
-      → IsShareOf owner w (record own { list = l }) (record p { list = m })
-  by_lists l m order same = search arith
-
-  -- all else is as the share has it
-  by_caches : (c d : Caches) → ((j : ℕ) → owner j ≡ w → c j ≡ d j) → IsShareOf owner w (record own { caches = c }) (record p { caches = d })
-  by_caches c d same = search arith
-
-  -- all else is as the share has it
-  by_books : (a b : Books) → ((j : ℕ) → owner j ≡ w → a j ≡ b j) → IsShareOf owner w (record own { books = a }) (record p { books = b })
-  by_books a b same = search arith
-
-  -- all else is as the share has it
-  by_records : (rs ss : List Record) → ((j : ℕ) → owner j ≡ w → records_by j rs ≡ records_by j ss)
-      → IsShareOf owner w (record own { records = rs }) (record p { records = ss })
-  by_records rs ss same = search arith
-
   -- A worker's share is so by fewer names, where these are among all.
   by_names : (few many : List Named) → AreAmong few many → IsShareOf owner w (record own { names = few }) (record p { names = many })
   by_names few many among = search arith
@@ -56,24 +38,21 @@ module _ {owner : Owners} {w : ℕ} {own p : Progress} (share : IsShareOf owner 
 -- ---- the same change at both
 share_list : {owner : Owners} {w : ℕ} {own p : Progress} (k : ℕ) (steps : List Made) → IsShareOf owner w own p
     → IsShareOf owner w (record own { list = triples k steps ++ own.list }) (record p { list = triples k steps ++ p.list })
-share_list {owner} {w} {own} {p} k steps share = search (arith, by_lists, same_steps, cases_eq, part_of_own, part_of_others)
+share_list {owner} {w} {own} {p} k steps share = search (arith, same_steps, cases_eq, part_of_own, part_of_others)
 
 -- A worker's share changes as the whole does, where one cache became another.
 share_cache : {owner : Owners} {w : ℕ} {own p : Progress} (k : ℕ) (c c' : Cached) → c ≡ c' → IsShareOf owner w own p
     → IsShareOf owner w (record own { caches = with_cache own.caches k c }) (record p { caches = with_cache p.caches k c' })
-share_cache {owner} {w} {own} {p} k c c' same share =
-    search (arith, by_caches)
+share_cache {owner} {w} {own} {p} k c c' same share = search arith
 
 -- A worker's share changes as the whole does, where one book became another.
 share_book : {owner : Owners} {w : ℕ} {own p : Progress} (k : ℕ) (guards : List Guard) → IsShareOf owner w own p
     → IsShareOf owner w (record own { books = with_book own.books k guards }) (record p { books = with_book p.books k guards })
-share_book {owner} {w} {own} {p} k guards share =
-    search (arith, by_books)
+share_book {owner} {w} {own} {p} k guards share = search arith
 
 -- A worker's share changes as the whole does, where records were added.
 share_records : {owner w own p : _} (rs : List Record) → IsShareOf owner w own p → IsShareOf owner w (with_records own rs) (with_records p rs)
-share_records {owner} {w} {own} {p} rs share =
-    search (arith, by_records, records_both)
+share_records {owner} {w} {own} {p} rs share = search (arith, records_both)
 
 -- ---- a change of what another worker has in its hands
 apart : (owner : Owners) (k j x : ℕ) → owner k ≢ x → owner j ≡ x → k ≢ j
@@ -82,19 +61,17 @@ apart owner k j x other is same = other (ap owner same ∙ is)
 -- Another worker's share stays as it is where an actor of this one makes steps.
 beside_list : {owner : Owners} {x : ℕ} {own p : Progress} (k : ℕ) (steps : List Made) → owner k ≢ x → IsShareOf owner x own p
     → IsShareOf owner x own (record p { list = triples k steps ++ p.list })
-beside_list {owner} {x} {own} {p} k steps other share = search (arith, by_lists, steps_past, ne_eqb, part_of_others)
+beside_list {owner} {x} {own} {p} k steps other share = search (arith, steps_past, ne_eqb, part_of_others)
 
 -- Another worker's share stays as it is where a cache in this one's hands changes.
 beside_cache : {owner : Owners} {x : ℕ} {own p : Progress} (k : ℕ) (c : Cached) → owner k ≢ x → IsShareOf owner x own p
     → IsShareOf owner x own (record p { caches = with_cache p.caches k c })
-beside_cache {owner} {x} {own} {p} k c other share =
-    search (arith, by_caches, ne_eqb)
+beside_cache {owner} {x} {own} {p} k c other share = search (arith, ne_eqb)
 
 -- Another worker's share stays as it is where a book in this one's hands changes.
 beside_book : {owner : Owners} {x : ℕ} {own p : Progress} (k : ℕ) (guards : List Guard) → owner k ≢ x → IsShareOf owner x own p
     → IsShareOf owner x own (record p { books = with_book p.books k guards })
-beside_book {owner} {x} {own} {p} k guards other share =
-    search (arith, by_books, ne_eqb)
+beside_book {owner} {x} {own} {p} k guards other share = search (arith, ne_eqb)
 
 -- none of these records is of an actor in the hands of worker x
 abbrev pub AreElsewhere : Owners → ℕ → List Record → Type 0
@@ -110,7 +87,7 @@ elsewhere_both owner x rs ss one two = λ j is. records_both j rs ss ∙ ap (λ 
 
 -- Another worker's share stays as it is where records elsewhere are added.
 beside_records : {owner x own p : _} (rs : List Record) → AreElsewhere owner x rs → IsShareOf owner x own p → IsShareOf owner x own (with_records p rs)
-beside_records {owner} {x} {own} {p} rs away share = search (arith, by_records, records_both, append-nil)
+beside_records {owner} {x} {own} {p} rs away share = search (arith, records_both, append-nil)
 
 -- ---- one act
 -- An act that was answered from a share on is answered from all on. Its worker has its share of what came of it, and each other worker the one that it had.
@@ -125,6 +102,14 @@ pub record IsWovenOne (f : Profile) (owner : Owners) (act : Act) (asked : List �
   pub only_asked : OnlyAsked (asked_after_act act asked) next.names
   pub same_names : (n : ℕ) → (Asks n act → ⊥) → standing_for next.names n ≡ standing_for p.names n
 
+-- By an act its worker comes to `mine`, all come to `next`, and `said` is added to the records.
+woven_by : {p : Progress} {f owner asked act after mine : _} (next : Progress) (said : List Record) → OnlyAsked (asked_after_act act asked) next.names
+    → ((n : ℕ) → (Asks n act → ⊥) → standing_for next.names n ≡ standing_for p.names n) → next.records ≡ p.records ++ said → AreSpoken said → after ≡ mine
+    → IsShareOf owner (owner (actor_of_act act)) mine next
+    → ((x : ℕ) (other : Progress) → owner (actor_of_act act) ≢ x → IsShareOf owner x other p → IsShareOf owner x other next) → Advances f act p next
+    → IsWovenOne f owner act asked p after
+woven_by {p} {f} {owner} {asked} {act} {after} {mine} next said only names records spoken is share beside advances = search arith
+
 operates_one : (f : Profile) (owner : Owners) (limit : ℕ) (asked : List ℕ) (op : Op) (p before after : Progress) → IsFitWhat f limit asked op.what
     → OnlyAsked asked p.names
     → IsShareOf owner (owner op.actor) before p → Advances f (Operates op) before after → IsWovenOne f owner (Operates op) asked p after
@@ -133,34 +118,18 @@ operates_one f owner limit asked op p before after fit only share did =
     let a = did.0 in
     let v = share.parts k refl in
     let c = share.caches k refl in
-    let here : IsAnswered f k op.what (having before.names (part k p.list) (p.caches k)) a = subst (λ (d : Cached). IsAnswered f k op.what
-    (having before.names (part k p.list) d) a) c (subst (λ (u : View). IsAnswered f k op.what (having before.names u (before.caches k)) a) v did.1) in
+    let here : IsAnswered f k op.what (having before.names (part k p.list) (p.caches k)) a = rw (v, c) at did.1 in
     let again = retold f limit k op.what asked before.names p.names (part k p.list) (p.caches k) a share.names only fit here in
     let b = answer_of a.steps a.said a.found again.after a.cache in
     let piece = records_of (events_by k (part k p.list) a.steps) ++ said_by k a.said in
     let each = piece_of k (part k p.list) a.steps a.said in
     let same : after ≡ with_records (record (with_steps before k a.steps a.cache) { names = a.names }) piece = did.2 ∙ ap (λ (u : View). with_records
     (record (with_steps before k a.steps a.cache) { names = a.names }) (records_of (events_by k u a.steps) ++ said_by k a.said)) v in
-    record {
-      next = after_answer p k b;
-      advances = (b, again.answered, refl);
-      share = subst (λ (q : Progress). IsShareOf owner (owner k) q (after_answer p k b)) (sym same)
-          (share_records piece (by_names (share_cache k a.cache a.cache refl (share_list k a.steps share)) a.names again.after again.own));
-      beside = λ x o other theirs. beside_records piece (elsewhere owner x k piece each other)
-          (by_names (beside_cache k a.cache other (beside_list k a.steps other theirs)) o.names again.after (again.others o.names theirs.names));
-      said = piece;
-      records_are = refl;
-      spoken = spoken_piece k piece each;
-      only_asked = again.only_asked;
-      same_names = again.same_names;
-    }
-
--- An act that changes no name: its worker comes to `mine` by it, all come to `next`, and `said` is added to the records.
-woven_by : {p : Progress} {f owner asked act after mine : _} (next : Progress) (said : List Record) → OnlyAsked (asked_after_act act asked) next.names
-    → next.names ≡ p.names → next.records ≡ p.records ++ said → AreSpoken said → after ≡ mine → IsShareOf owner (owner (actor_of_act act)) mine next
-    → ((x : ℕ) (other : Progress) → owner (actor_of_act act) ≢ x → IsShareOf owner x other p → IsShareOf owner x other next) → Advances f act p next
-    → IsWovenOne f owner act asked p after
-woven_by {p = p} {f = f} {owner = owner} {asked = asked} {act = act} {after = after} {mine = mine} next said only names records spoken is share beside advances = search arith
+    woven_by {p = p} (after_answer p k b) piece again.only_asked again.same_names refl (spoken_piece k piece each) same
+    (share_records piece (by_names (share_cache k a.cache a.cache refl (share_list k a.steps share)) a.names again.after again.own))
+    (λ x o other theirs. beside_records piece (elsewhere owner x k piece each other)
+    (by_names (beside_cache k a.cache other (beside_list k a.steps other theirs)) o.names again.after (again.others o.names theirs.names)))
+    (b, again.answered, refl)
 
 -- ---- a stop, which says so much besides
 stops_one : (f : Profile) (owner : Owners) (asked : List ℕ) (act : Act) (k j : ℕ) (p before after : Progress) (steps : List Made) (c : Cached)
@@ -174,8 +143,8 @@ stops_one f owner asked act k j p before after steps c more mine said_mine each 
     let events = records_of (events_by k (part k p.list) steps) in
     let own = events_of_piece k (part k p.list) steps in
     let same : after ≡ with_records (with_steps before k steps c) (events ++ more) = is ∙ ap (λ (u : View). with_records (with_steps before k steps c) (records_of (events_by k u steps) ++ more)) v in
-    woven_by (after_stop p k steps c more) (events ++ more) only refl refl (spoken_both events more (spoken_piece k events own) (spoken_piece j more each)) same
-    (share_records (events ++ more) (share_cache k c c refl (share_list k steps share)))
+    woven_by (after_stop p k steps c more) (events ++ more) only (λ n none. refl) refl (spoken_both events more (spoken_piece k events own)
+    (spoken_piece j more each)) same (share_records (events ++ more) (share_cache k c c refl (share_list k steps share)))
     (λ x o other theirs.
     let ne : owner k ≢ x = λ is. other (sym mine ∙ is) in
     let away = elsewhere_both owner x events more (elsewhere owner x k events own ne) (elsewhere owner x j more each (λ is. other (sym said_mine ∙ is))) in
@@ -193,7 +162,8 @@ idle_one f owner asked k n p before after mine only share did =
     elim did [
       | inl so ↦ stops_one f owner asked (StopsIdle k n) k 0 p before after so.1 so.2 (stopped k) mine refl (λ j. refl, tt) only share so.3 so.4
           (λ is. inl (subst (λ (A : Type 0). A) same so.0, so.1, so.2, is, refl))
-      | inr not_so ↦ woven_by p [] only refl (sym (append-nil p.records)) tt not_so.1 share (λ x o other theirs. theirs) (inr (λ idle. not_so.0 (subst (λ (A : Type 0). A) (sym same) idle), refl))
+      | inr not_so ↦ woven_by p [] only (λ n none. refl) (sym (append-nil p.records)) tt not_so.1 share (λ x o other theirs. theirs)
+          (inr (λ idle. not_so.0 (subst (λ (A : Type 0). A) (sym same) idle), refl))
     ]
 
 -- ---- a guarded request: its keeper's piece, and what follows it
@@ -222,89 +192,61 @@ module _ (f : Profile) (owner : Owners) (limit : ℕ) (asked : List ℕ) (keeper
       let one = tried_one owner (owner op.actor) p before keeper t mine each share in
       let next = after_giving (after_trying p keeper t) r.name block in
       let new = names_new asked before.names p.names r.name (Some block) (grind arith) share.names only in
-      record {
-        next = next;
-        advances = subst (λ (o : Option Request). AnswersGuarded f keeper op o p next) (sym asks) (t, is, subst (λ (b : Option Block). AnswersTried f op r b (after_trying p keeper t) next) (sym given) refl);
-        share = subst (λ (q : Progress). IsShareOf owner (owner op.actor) q next) (sym did) (by_names one.share _ _ new.own);
-        beside = λ x o other theirs. by_names (one.beside x o other theirs) o.names (named r.name (Some block) ∷ p.names) (new.others o.names theirs.names);
-        said = t.records;
-        records_are = refl;
-        spoken = spoken_piece keeper t.records each;
-        only_asked = subst (λ (ns : List ℕ). OnlyAsked ns (named r.name (Some block) ∷ p.names)) (sym (ap (λ (o : Option Request). asked_with o asked) asks)) new.only_asked;
-        same_names = λ n none. new.same_names n (λ same. none (subst (λ (o : Option Request). IsSomeAnd o (λ q. q.name ≡ n)) (sym asks) same));
-      }
+      woven_by {p = p} next t.records (rw asks new.only_asked) (λ n none. new.same_names n (λ same. none (rw asks same))) refl
+      (spoken_piece keeper t.records each) did (by_names one.share _ _ new.own)
+      (λ x o other theirs. by_names (one.beside x o other theirs) o.names (named r.name (Some block) ∷ p.names) (new.others o.names theirs.names))
+      (rw asks (t, is, rw given refl))
   followed r t None asks given is each did =
       let one = tried_one owner (owner op.actor) p before keeper t mine each share in
       let late = operates_one f owner limit asked op (after_trying p keeper t) (after_trying before keeper t) after fit only one.share did in
-      record {
-        next = late.next;
-        advances = subst (λ (o : Option Request). AnswersGuarded f keeper op o p late.next) (sym asks)
-            (t, is, subst (λ (b : Option Block). AnswersTried f op r b (after_trying p keeper t) late.next) (sym given) late.advances);
-        share = late.share;
-        beside = λ x o other theirs. late.beside x o other (one.beside x o other theirs);
-        said = t.records ++ late.said;
-        records_are = late.records_are ∙ append_assoc p.records t.records late.said;
-        spoken = spoken_both t.records late.said (spoken_piece keeper t.records each) late.spoken;
-        only_asked = late.only_asked;
-        same_names = λ n none. late.same_names n none;
-      }
+      woven_by {p = p} late.next (t.records ++ late.said) late.only_asked late.same_names (late.records_are ∙ append_assoc p.records t.records late.said)
+      (spoken_both t.records late.said (spoken_piece keeper t.records each) late.spoken) refl late.share
+      (λ x o other theirs. late.beside x o other (one.beside x o other theirs))
+      (rw asks (t, is, subst (λ (b : Option Block). AnswersTried f op r b (after_trying p keeper t) late.next) (sym given) late.advances))
 
   -- A guarded request is woven into its thread's acts.
   guarded : (o : Option Request) → request_in op.what ≡ o → AnswersGuarded f keeper op o before after → IsWovenOne f owner (Guards keeper op) asked p after
   guarded o h i = grind (arith, followed, try_each)
 
-guards_one : (f : Profile) (owner : Owners) (limit : ℕ) (asked : List ℕ) (keeper : ℕ) (op : Op) (p before after : Progress) → IsFitWhat f limit asked op.what
-    → owner keeper ≡ owner op.actor → OnlyAsked asked p.names
-    → IsShareOf owner (owner op.actor) before p → Advances f (Guards keeper op) before after → IsWovenOne f owner (Guards keeper op) asked p after
-guards_one f owner limit asked keeper op p before after fit mine only share did =
-    guarded f owner limit asked keeper op p before after fit mine only share (request_in op.what) refl did
-
 -- ---- any act
--- what of the fitness of all acts is that of the others after the first
-rest_fit : (f : Profile) (limit : ℕ) (asked : List ℕ) (act : Act) (acts : List Act) → AreFit f limit asked (act ∷ acts)
-    → AreFit f limit (asked_after_act act asked) acts
-rest_fit f limit asked act acts h = grind arith
-
 woven_one : (f : Profile) (owner : Owners) (limit : ℕ) (asked : List ℕ) (act : Act) (acts : List Act) (p before after : Progress)
     → AreFit f limit asked (act ∷ acts) → IsInHand owner act → OnlyAsked asked p.names
     → IsShareOf owner (owner (actor_of_act act)) before p → Advances f act before after → IsWovenOne f owner act asked p after
 woven_one f owner limit asked (Operates op) acts p before after fit hand only share did = search (arith, operates_one)
-woven_one f owner limit asked (Guards keeper op) acts p before after fit hand only share did = search (arith, guards_one)
+woven_one f owner limit asked (Guards keeper op) acts p before after fit hand only share did =
+    guarded f owner limit asked keeper op p before after fit.3 hand only share (request_in op.what) refl did
 woven_one f owner limit asked (Settles k) acts p before after fit hand only share did = search (arith, woven_by, append-nil, share_cache, beside_cache)
 woven_one f owner limit asked (Ticks asked_for) acts p before after fit hand only share did =
-    let e = did.0 in
-    let steps : List Made = made (Step.Tick asked_for) e ∷ [] in
-    let rs : List Record = Record.Said 0 (Said.Tick (max e asked_for)) ∷ [] in
+    let steps : List Made = made (Step.Tick asked_for) did.0 ∷ [] in
+    let rs : List Record = Record.Said 0 (Said.Tick (max did.0 asked_for)) ∷ [] in
     let each : EachOf 0 rs = (λ k. refl, tt) in
-    woven_by (after_tick p asked_for e) rs only refl refl (spoken_piece 0 rs each) did.1 (share_records rs (share_list 0 steps share))
-    (λ x o other theirs. beside_records rs (elsewhere owner x 0 rs each other) (beside_list 0 steps other theirs)) (e, refl)
+    woven_by (after_tick p asked_for did.0) rs only (λ n none. refl) refl (spoken_piece 0 rs each) did.1 (share_records rs (share_list 0 steps share))
+    (λ x o other theirs. beside_records rs (elsewhere owner x 0 rs each other) (beside_list 0 steps other theirs)) (did.0, refl)
 woven_one f owner limit asked MakesPass acts p before after fit hand only share did =
     let steps = did.2 in
     let rs = records_of_pass 0 did.0 did.1 in
     let each = pass_of 0 did.0 did.1 in
-    woven_by (after_pass p did.0 did.1 steps) rs only refl refl (spoken_piece 0 rs each) did.4 (share_records rs (share_list 0 steps share))
+    woven_by (after_pass p did.0 did.1 steps) rs only (λ n none. refl) refl (spoken_piece 0 rs each) did.4 (share_records rs (share_list 0 steps share))
     (λ x o other theirs. beside_records rs (elsewhere owner x 0 rs each other) (beside_list 0 steps other theirs)) (did.0, did.1, steps, did.3, refl)
 woven_one f owner limit asked ReadsEpoch acts p before after fit hand only share did =
-    let e = did.0 in
-    let look = epoch_look e in
-    woven_by (after_reading p e) [] only refl (sym (append-nil p.records)) tt did.1 (by_epochs (share_list 0 look share) e e (λ is. refl))
-    (λ x o other theirs. by_epochs (beside_list 0 look other theirs) o.epoch e (λ is. absurd (other is))) (e, refl)
+    woven_by (after_reading p did.0) [] only (λ n none. refl) (sym (append-nil p.records)) tt did.1 (by_epochs (share_list 0 (epoch_look did.0) share)
+    did.0 did.0 (λ is. refl)) (λ x o other theirs. by_epochs (beside_list 0 (epoch_look did.0) other theirs) o.epoch did.0 (λ is. absurd (other is)))
+    (did.0, refl)
 woven_one f owner limit asked (StopsIdle k n) acts p before after fit hand only share did = idle_one f owner asked k n p before after hand only share did
 woven_one f owner limit asked (Wakes k) acts p before after fit hand only share did =
-    let e = did.0 in
-    let c = begun (p.caches k) e in
-    let same = ap (λ (d : Cached). begun d e) (share.caches k refl) in
-    woven_by (after_wake p k e) [] only refl (sym (append-nil p.records)) tt did.1 (share_cache k (begun (before.caches k) e) c same
-    (share_list k (epoch_look e) share)) (λ x o other theirs. beside_cache k c other (beside_list k (epoch_look e) other theirs)) (e, refl)
+    let c = begun (p.caches k) did.0 in
+    let same = ap (λ (d : Cached). begun d did.0) (share.caches k refl) in
+    woven_by (after_wake p k did.0) [] only (λ n none. refl) (sym (append-nil p.records)) tt did.1 (share_cache k (begun (before.caches k) did.0) c same
+    (share_list k (epoch_look did.0) share)) (λ x o other theirs. beside_cache k c other (beside_list k (epoch_look did.0) other theirs)) (did.0, refl)
 woven_one f owner limit asked (Lowers keeper) acts p before after fit hand only share did =
     let steps = did.0 in
     let said = did.1 in
-    let here : IsLowered f keeper (part keeper p.list) (p.books keeper) steps said =
-    subst (λ (gs : List Guard). IsLowered f keeper (part keeper p.list) gs steps said) (share.books keeper refl)
-    (subst (λ (v : View). IsLowered f keeper v (before.books keeper) steps said) (share.parts keeper refl) did.2) in
+    let here : IsLowered f keeper (part keeper p.list) (p.books keeper) steps said = rw (share.parts keeper refl, share.books keeper refl) at did.2 in
     let each = swept_each true keeper (p.books keeper) [] said steps here.sweep.swept in
-    woven_by (after_lowering p keeper steps said) said only refl refl (spoken_piece keeper said each) did.3 (share_records said (share_book keeper [] (share_list keeper steps share)))
-    (λ x o other theirs. beside_records said (elsewhere owner x keeper said each other) (beside_book keeper [] other (beside_list keeper steps other theirs))) (steps, said, here, refl)
+    woven_by (after_lowering p keeper steps said) said only (λ n none. refl) refl (spoken_piece keeper said each) did.3
+    (share_records said (share_book keeper [] (share_list keeper steps share)))
+    (λ x o other theirs. beside_records said (elsewhere owner x keeper said each other) (beside_book keeper [] other (beside_list keeper steps other theirs)))
+    (steps, said, here, refl)
 woven_one f owner limit asked (Ends k) acts p before after fit hand only share did =
     stops_one f owner asked (Ends k) k k p before after did.0 did.1 [] refl refl tt only share did.2 did.3 (λ so. (did.0, did.1, so, refl))
 woven_one f owner limit asked _ acts p before after fit hand only share did = absurd hand
@@ -341,7 +283,7 @@ weave f owner limit asked (act ∷ acts) p before after fit hands only shares ow
     ] in
     let own1 : (x : ℕ) → Reaches f (acts_by owner x acts) (now x) (after x) = search (arith, cases_eq, eq-eqb, ne_eqb) in
     let rest =
-    weave f owner limit (asked_after_act act asked) acts one.next now after (rest_fit f limit asked act acts fit) hands.1 one.only_asked shares1 own1 in
+    weave f owner limit (asked_after_act act asked) acts one.next now after (grind arith) hands.1 one.only_asked shares1 own1 in
     record {
       reached = rest.reached;
       reaches = (one.next, one.advances, rest.reaches);

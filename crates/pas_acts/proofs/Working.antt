@@ -211,17 +211,13 @@ pub pair_alone : {f keeper next p meant old new later : _} (came : Option Block)
 pair_alone {f} {keeper} {next} {p} {old = old} {new} {later} came more op kept kept' none at did stands =
     let rest = Settles op.actor ∷ next in
     let waits = waits_past f keeper more p op rest kept (subst (λ (o : Option ℕ). KeeperWaits f keeper (act_kept o op ∷ rest) kept more p) none at.waits) in
-    subst (λ (o : Option ℕ). PairActs f op.actor keeper (act_kept o op ∷ (Settles op.actor ∷ [])) (named_by op.what came) old new kept kept' later (for_guards next more) p)
-    (sym none) (search (arith, part_of_others, keeper_still, append-nil, all_by, nothing_kept, none_by, still_without_keeper, of_one))
+    rw none (search (arith, part_of_others, keeper_still, append-nil, all_by, nothing_kept, none_by, still_without_keeper, of_one))
 
 -- ---- an operation's acts
 -- the first of them may be guarded: the thread's part of it goes by the operation alone
 fit_now : (f : Profile) (limit : ℕ) (asked : List ℕ) (o : Option ℕ) (op : Op) (next : List Act)
     → AreFit f limit asked (act_kept o op ∷ (Settles op.actor ∷ next)) → IsFitWhat f limit asked op.what × AreFit f limit (asked_after op.what asked) next
 fit_now f limit asked a op next fit = search arith
-
-abbrev Before : Profile → Op → List Act → Standing → Keeps → Later → Progress → Type 0
-Before f op next σ has later p = ThreadAt f op.actor (head_acts op ++ next) σ has later p
 
 -- ---- a thread at its desk
 -- the acts that are left need room besides
@@ -244,7 +240,7 @@ no_chore f limit asked fit is = subst (λ (w : Work). IsFitWork f limit asked w)
 
 -- A thread before an operation may do it, for what its name stands for.
 may_operate : {f next σ c known out later p what meant : _} (op : Op)
-    → op.what ≡ what → Before f op next σ (keeps c known out) later p → meant ≡ freed_by (known_in known.book known.requests) what
+    → op.what ≡ what → ThreadAt f op.actor (head_acts op ++ next) σ (keeps c known out) later p → meant ≡ freed_by (known_in known.book known.requests) what
     → MayOperate f op.actor op.what meant (here σ c out) (with_acts op.actor next later) p
 may_operate {f} {next} {σ} {c} {known} {out} {later} {p} op asks at freed = let is = freed ∙ ap (freed_by (known_in known.book known.requests)) (sym asks) in record {
   rests = search (arith, sum_both, kept_cost, own_cost, sits_for);
@@ -319,27 +315,14 @@ pub operated : {f keeper next σ σ' c c' known known' what came out out' kept k
     → IsKept known known' what came → MayStand f came
     → PairWorks f op.actor keeper (head_acts op) next σ σ' (keeps c known out) (keeps c' known' out') kept kept' later more p
 operated {f} {keeper} {next} {σ} {σ'} {c} {c'} {known} {known'} {what} {came} {out} {out'} {kept} {kept'} {later} {more} {p} op asks at did keeping stands =
-    let noted = subst (λ (w : What). IsKept known known' w came) (sym asks) keeping in
-    record {
-      reached = did.reached;
-      reaches = did.reaches;
-      stands = record {
-        thread = thread_stands did.stands (subst (λ (ns : List Named). KnowsNames f next known' ns) (sym did.names) (knows_more op at.thread.names noted stands));
-        apart = at.apart;
-        waits = grind arith;
-      };
-      said = did.said;
-      records_are = did.records_are;
-      pushed = did.pushed;
-      room = did.room;
-      kept_pushed = did.kept_pushed;
-      still = did.still;
-      each = did.each;
-      book = noted.book;
-      noted = names_kept op.what noted ∙ ap (λ (ns : List ℕ). names_of (requests_in known.requests) ++ ns) (sym (asks_now op [] ∙ append-nil (name_asked op.what)));
-      room_noted = noted.room;
-      paid = did.paid;
-    }
+    let noted : IsKept known known' op.what came = subst (λ (w : What). IsKept known known' w came) (sym asks) keeping in
+    let thread : ThreadAt f op.actor next σ' (keeps c' known' out') later did.reached = thread_stands did.stands
+    (subst (λ (ns : List Named). KnowsNames f next known' ns) (sym did.names) (knows_more op at.thread.names noted stands)) in
+    let there : PairAt f op.actor keeper next σ' (keeps c' known' out') kept' later more did.reached
+    = record { thread = thread; apart = at.apart; waits = grind arith } in
+    let names = names_kept op.what noted ∙ ap (λ (ns : List ℕ). names_of (requests_in known.requests) ++ ns)
+    (sym (asks_now op [] ∙ append-nil (name_asked op.what))) in
+    search arith
 
 -- ---- one after the other
 -- What a keeper said in two parts, one after the other, it said together.

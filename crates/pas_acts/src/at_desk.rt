@@ -79,6 +79,7 @@ pub fn tick<D: Desk>(desk: &mut D, epoch: u64, out: &mut Records)
 }
 
 /// Makes a pass over the pages that are hinted as empty. One record, and one for each outcome, of which there are at most as many as pages.
+#[tactic(auto, using(crate::proofs::AtDesk::can_scavenge))]
 pub fn pass<D: Desk>(desk: &mut D, outcomes: &mut Outcomes, out: &mut Records)
     requires stands { (f : TheProfile) × (later : Later) × (p : Progress) × HasRoomAt f (D.standing desk.old) out.old (for_act f MakesPass later) p }
     requires places { places_of outcomes.old ≡ (D.standing desk.old).seat.profile.pages }

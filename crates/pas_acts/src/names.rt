@@ -179,6 +179,7 @@ impl NameBook {
     }
 
     /// Takes the requests of a thread over, after the phase: each name stands for what its request came to. There are no requests then.
+    #[tactic(auto, using(crate::proofs::Noting::within_at, crate::proofs::Noting::over_next))]
     pub fn take(&mut self, requests: &mut Requests)
         requires within { AreWithin (names_held self.old.names) (names_of (requests_in requests.old)) }
         ensures names { (n : ℕ) → block_named self.new.names n ≡ known_in self.old requests.old n }
@@ -197,6 +198,7 @@ impl NameBook {
 
     /// What the name stands for to the thread with these requests: what its own request came to, or what the book says. Takes one look at its place.
     #[inline]
+    #[tactic(auto, using(crate::proofs::Noting::at_place))]
     pub fn meaning(&self, requests: &Requests, name: u32) -> Option<Block>
         requires { ArePlaced self.now 0 (names_of (requests_in requests.now)) }
         ensures { result ≡ known_in self.now requests.now name }

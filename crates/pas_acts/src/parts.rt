@@ -9,6 +9,7 @@ use pas_utility::{Outcomes, Utility};
 use std::alloc::Global;
 
 /// The room of each actor, from the scavenger on. NoMemory where memory was wanting.
+#[tactic(auto, using(crate::proofs::Making::next_room))]
 pub fn rooms_of(
     alloc: Global,
     utility: &mut Utility,
@@ -35,6 +36,7 @@ pub fn rooms_of(
 }
 
 /// An empty cache for each of so many threads, from thread 1 on. NoMemory where memory was wanting.
+#[tactic(auto, using(crate::proofs::Making::none_unused, crate::proofs::Making::next_unused))]
 pub fn caches_for(
     alloc: Global,
     utility: &mut Utility,

@@ -77,6 +77,7 @@ fn count_guarded<P: Operations>(phase: &P, counts: &mut [u32; 17])
 }
 
 /// How many guarded requests of each thread the phases have, by thread.
+#[tactic(auto, using(crate::proofs::Making::phases_next))]
 fn guarded_by_thread<P: Operations>(phases: &[P]) -> [u32; 17]
     requires actors { AllByRecursion (λ op. op.actor < 17) (all_ops (map P.ops phases.now)) }
     requires few { (k : ℕ) → guarded_of k (all_ops (map P.ops phases.now)) < 2 ^ 32 }

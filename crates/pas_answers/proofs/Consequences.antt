@@ -10,26 +10,27 @@ use Rattle.pas_answers.proofs.Common.{EmptiesFull, What, Alloc, Guarded, Remake,
 use Rattle.pas_answers.proofs.Common.{ReadsEpoch, StopsIdle, MarksPhase, Wakes, MarksClose, Ends, Lowers, request_in, asked_after, Said, Record, CanShow}
 use Rattle.pas_answers.proofs.Common.{AreOfRegion, Having, Answer, standing_for, entry_with, IsRemadeBy, IsAnswered, wanted_by, records_of, Progress, having}
 use Rattle.pas_answers.proofs.Common.{said_by, Named, epoch_look, request_for, Tried, IsTried, after_trying, AreInPhases, GoByStages, AreOfThreads, IsFitWhat}
-use Rattle.pas_answers.proofs.Common.{AnswersTried, AnswersGuarded, Reaches, Advances, at_start, acts_of_plan, threads_of, keepers_of, phases_of}
-use Rattle.pas_answers.proofs.Common.{stages_of_plan, region_of, Way, InOrder, OnThreads, IsOneOrder, arranged, give_steps, large_directory, seeking, IsRaised}
-use Rattle.pas_answers.proofs.{Common.{RaiseSteps, MakesCalls, sweeping, Swept, SweepSteps, raised_backs, raised_leaves}, Reached.{of_front, of_back, was_so}}
-use Rattle.pas_answers.proofs.{Reached.{tried_on, pieces_back, Each, same_parts, legal_part, of_rest, calls_alone}, OwnRecords.{EachShown, shown_both}}
-use Rattle.pas_answers.proofs.{OwnRecords.{records_shown, each_arranged, piece_shown, pass_shown, all_shown, swept_all, try_all}, Requests.known_directory}
-use Rattle.pas_answers.specs.{Guarding.{try_steps, guarded_steps}, Reaching.AnswersOp, Answers.{IsFreed, IsFreedBy, IsServed, IsStopped, stopped, after_stop}}
-use Rattle.pas_answers.specs.{Fit.AreFit, Replays.IsReplay, Rests.RestBetween, Indexes.{GoByIndexes, TriedTakesItsRun, GuardedTakesItsRun, AllTakeTheirRuns}}
-use Rattle.pas_answers.specs.Refusals.{AreRefusalsTrue, Served, request_in_answer, request_in_remade, TriedRefusesTruly, GuardedRefusesTruly, AllRefuseTruly}
+use Rattle.pas_answers.proofs.Common.{AnswersTried, AnswersGuarded, Reaches, Advances, at_start, acts_of_plan, stages_of_plan, region_of, Way, IsOneOrder}
+use Rattle.pas_answers.proofs.Common.{arranged, give_steps, large_directory, seeking, IsRaised, RaiseSteps, MakesCalls, sweeping, Swept, raised_backs}
+use Rattle.pas_answers.proofs.{Common.raised_leaves, Reached.{of_front, of_back, was_so, tried_on, pieces_back, Each, same_parts, legal_part, of_rest}}
+use Rattle.pas_answers.proofs.{Reached.calls_alone, OwnRecords.{EachShown, shown_both, records_shown, each_arranged, piece_shown, pass_shown, all_shown}}
+use Rattle.pas_answers.{proofs.{OwnRecords.{swept_all, try_all}, Requests.known_directory}, specs.Replays.{threads_of, keepers_of, phases_of, IsReplay}}
+use Rattle.pas_answers.specs.{Ways.{InOrder, OnThreads}, Guarding.{try_steps, guarded_steps}, Reaching.AnswersOp, Answers.{IsFreed, IsFreedBy, IsServed}}
+use Rattle.pas_answers.specs.{Answers.{IsStopped, stopped, after_stop}, Fit.AreFit, Rests.RestBetween, Indexes.{GoByIndexes, TriedTakesItsRun}}
+use Rattle.pas_answers.specs.{Indexes.{GuardedTakesItsRun, AllTakeTheirRuns}, Refusals.{AreRefusalsTrue, Served, request_in_answer, request_in_remade}}
+use Rattle.pas_answers.specs.Refusals.{TriedRefusesTruly, GuardedRefusesTruly, AllRefuseTruly}
+use Rattle.pas_guard.specs.{Sweeps.SweepSteps, Raises.IsNotRaised}
 use Rattle.pas_profile.specs.{Directories.directory_read, Entries.{sized_entry, is_sized}, Lives.live_word}
-use Rattle.pas_steps.specs.{Views.is_unstamped, declared.step.Step.TheVariants.{EndSized, Stamp}, Kinds.{Kinds, look_kind, apart, Putting, Ending, Stamping}}
-use Rattle.pas_steps.{specs.Kinds.{Ticking, looking, place_of, unstamping, Backing, Giving, LookLife}, proofs.Apart.{holds_over, only_both, only_within}}
-use Rattle.pas_steps.proofs.{Apart.{unstamped_same, unstamped_step_same, out_within}, Calls.returns_are}
-use Rattle.pas_free_log.specs.{declared.ending.Outcome.{Outcome, TheVariants.{Ended, Refused}}, Endings.{guess_by, last_step, IsRefusedBy, IsEndOf, EndSteps}}
+use Rattle.pas_steps.specs.{Views.is_unstamped, declared.step.Step.TheVariants.Stamp, Kinds.{Kinds, look_kind, apart, Ending, Stamping, Ticking, looking}}
+use Rattle.pas_steps.{specs.Kinds.{place_of, unstamping, Backing, Giving, LookLife}, proofs.Apart.{holds_over, only_both, only_within, unstamped_same}}
+use Rattle.pas_steps.proofs.{Apart.{unstamped_step_same, out_within}, Calls.returns_are}
+use Rattle.pas_free_log.specs.{declared.ending.Outcome.{Outcome, TheVariants.{Ended, Refused}}, Endings.{guess_by, last_step, IsEndOf, EndSteps}}
 use Rattle.pas_free_log.specs.{Stamps.page_count, Returns.{PageSteps, PagesSteps, first_on, count_on}, Flushes.{Settled, AfterEnd, EntrySteps, EntriesSteps}}
 use Rattle.pas_free_log.proofs.OneEntry.{count_some, guess_is, not_ended}
 use Rattle.pas_cache.{specs.{Changes.EmptiesLog, Kinds.{releasing, allocating}, Refusals.{IsTrulyRefused, TakesWhatIsNamed}}, proofs.Alone.truly_refused}
 use Rattle.pas_cache.proofs.Alone.{takes_named}
 use Rattle.pas_records.{specs.Rests.AreStamped, proofs.MarksAtRest.true_marks}
 use Rattle.pas_rights.proofs.{Orders.return_returns, Puts.puts_kinds}
-use Rattle.pas_guard.specs.Raises.{IsNotRaised}
 use Rattle.pas_bits.{specs.Runs.meets_page, proofs.Runs.{to_meet, met_by}}
 use Rattle.pas_core.{specs.Stamps.{AllStamped, KeepsToEnds, AllKeepToEnds}, proofs.{Lives.stamps_are_ends, MachineRuns.runs, OneActor.legal_before}}
 use Rattle.pas_core.proofs.OneActor.{legal_earlier}
@@ -86,8 +87,7 @@ page_done : (g n : ℕ) (steps : List Made) (v : View) → PageSteps g n steps �
 page_done g n steps v h kept un =
     let first : List Made = made (Stamp (g / 256)) h.stamped ∷ made (Look (Word.Deed (g / 256))) (deed_word_of h.directory) ∷ [] in
     let more : List Made = h.after ++ h.puts in
-    let only : Only releasing more = only_both releasing h.after h.puts (only_within returning releasing h.after refl (returns_are (g / 256) h.after (return_returns (g / 256) h.directory h.after h.returns)))
-    (only_within (Putting ∷ []) releasing h.puts refl (puts_kinds (g / 256) h.mask 4 h.puts h.order)) in
+    let only : Only releasing more = search (arith, only_both, only_within, returns_are, return_returns, puts_kinds) in
     subst (PageDone (g / 256) v) (sym (ap (λ ms. ms ++ v) (h.steps_are ∙ sym (append_assoc h.after h.puts first)) ∙ append_assoc more first v)) record {
       kept = kept_over releasing refl more (first ++ v) only (un, (tt, kept));
       stamps = λ q. unstamped_same releasing refl q more (first ++ v) only;
@@ -127,9 +127,7 @@ run_tidy g n steps v some was h =
     let at : PagesDone g n (page_count g n) (steps ++ v) = pages_done (page_count g n) g n steps v some (omega (arith, count)) was h in
     record {
       kept = at.kept;
-      stamped = λ p. false_from_ne_true (is_unstamped (steps ++ v) p) (λ un.
-          let on = at.pending.only p un in
-          absurd (omega (arith, count, on.1, (met_by g n p on.0).1)));
+      stamped = search (arith, false_from_ne_true, met_by);
     }
 
 -- ---- an entry of the log
@@ -139,22 +137,10 @@ misses z y was h = cond-false (z && y) true was (and_left z y h)
 met_from : (g n p : ℕ) → meets_page g n p ≡ true → g / 256 + 0 ≤ p
 met_from g n p h = let low = (met_by g n p h).0 in omega (arith, low)
 
-not_refused : {x y : ℕ} → Ended x ≡ Refused y → ⊥
-not_refused h = cc
-
 -- the pages of the block that an end with this answer ended
-record IsTidyTry (name : Name) (outcome : Outcome) (v : View) : Type 0 where
-  ended : (grains : ℕ) → outcome ≡ Ended grains → (1 ≤ grains) × PagesDone (grain_of name) grains 0 v
-  refused : (read : ℕ) → outcome ≡ Refused read → Tidy v
-
--- what the last try came to
-abbrev EndOf : Bool → Name → ℕ → ℕ → Outcome → Type 0
-EndOf t name guess a (Ended grains) = (a ≡ live_word name.turn guess) × (grains ≡ guess)
-EndOf t name guess a (Refused read) = IsRefusedBy t name guess a × (read ≡ a)
-
-end_of : (entry : Entry) (guess a : ℕ) (outcome : Outcome) → IsEndOf entry guess a outcome → EndOf (is_sized entry) entry.name guess a outcome
-end_of entry guess a (Ended grains) h = h
-end_of entry guess a (Refused read) h = h
+abbrev IsTidyTry : Name → Outcome → View → Type 0
+IsTidyTry name (Ended grains) v = (1 ≤ grains) × PagesDone (grain_of name) grains 0 v
+IsTidyTry name (Refused read) v = Tidy v
 
 -- what the step of an end leaves unstamped, by a length or by a room
 record MarksEnds (name : Name) (n : ℕ) (s : Step) : Type 0 where
@@ -162,23 +148,23 @@ record MarksEnds (name : Name) (n : ℕ) (s : Step) : Type 0 where
       → is_unstamped (made s a ∷ u) p ≡ (if (a == live_word name.turn n) && meets_page (grain_of name) n p then true else is_unstamped u p)
   keeps : (u : View) → KeepsToEnds u s
 
+-- by cases
 marks_by : (t : Bool) (entry : Entry) (n : ℕ) → (t ≡ true → n ≡ entry.room / 16) → MarksEnds entry.name n (last_step t entry n)
-marks_by true entry n is = subst (λ m. MarksEnds entry.name m (EndSized entry.name entry.room)) (sym (is refl)) (record { marks = λ a p u. refl; keeps = λ u. tt })
-marks_by false entry n is = record { marks = λ a p u. refl; keeps = λ u. tt }
+marks_by t entry n is = search arith
 
+-- by cases
 last_of : (f : Profile) (t : Bool) (entry : Entry) (n : ℕ) → (t ≡ true → n ≡ entry.room / 16) → IsStepOf f (last_step t entry n)
     → (entry.name.turn < 2 ^ 40 - 1) × (1 ≤ n)
-last_of f true entry n is of = (of.0.2, subst (λ m. 1 ≤ m) (sym (is refl)) of.0.3)
-last_of f false entry n is of = (of.2, of.3)
+last_of f t entry n is of = search arith
 
 pending_now : (name : Name) (guess a : ℕ) (s : Step) (u : View) → MarksEnds name guess s → AllStamped u → a ≡ live_word name.turn guess
     → IsPending (grain_of name) guess 0 (made s a ∷ u)
 pending_now name guess a s u h stamped hit = search (arith, eq-eqb, met_from)
 
-end_done : (t : Bool) (name : Name) (outcome : Outcome) (guess a : ℕ) (s : Step) (u : View) → MarksEnds name guess s → Tidy u → name.turn < 2 ^ 40 - 1
-    → 1 ≤ guess → EndOf t name guess a outcome → IsTidyTry name outcome (made s a ∷ u)
-end_done t name (Ended grains) guess a s u marks tidy turn some h = search (arith, pending_now, not_refused)
-end_done t name (Refused read) guess a s u marks tidy turn some h = search (arith, not_refused, misses, ne_eqb, not_ended)
+end_done : (entry : Entry) (outcome : Outcome) (guess a : ℕ) (s : Step) (u : View) → MarksEnds entry.name guess s → Tidy u → entry.name.turn < 2 ^ 40 - 1
+    → 1 ≤ guess → IsEndOf entry guess a outcome → IsTidyTry entry.name outcome (made s a ∷ u)
+end_done entry (Ended grains) guess a s u marks tidy turn some h = search (arith, pending_now)
+end_done entry (Refused read) guess a s u marks tidy turn some h = search (arith, misses, ne_eqb, not_ended)
 
 -- ---- an entry, all entries, and a flush; the steps are of the region
 ends_done : (f : Profile) (entry : Entry) (outcome : Outcome) (steps : List Made) (v : View) → AreOfRegion f steps → EndSteps entry outcome steps → Tidy v
@@ -191,12 +177,11 @@ ends_done f entry outcome steps v of h tidy =
     let last : (entry.name.turn < 2 ^ 40 - 1) × (1 ≤ h.guess) = last_of f t entry h.guess is ((subst (AreOfRegion f) h.steps_are of).0) in
     let tried : Tidy ((h.before ++ look ∷ []) ++ v) = tidy_both (h.before ++ look ∷ []) h.before (look ∷ []) v refl
     (search (arith, tidy_none, misses, ne_eqb)) in
-    subst (λ ms. IsTidyTry entry.name outcome (ms ++ v)) (sym h.steps_are)
-    (end_done t entry.name outcome h.guess h.answer (last_step t entry h.guess) ((h.before ++ look ∷ []) ++ v) (marks_by t entry h.guess is) tried last.0 last.1 (end_of entry h.guess h.answer outcome h.comes_to))
+    search (arith, end_done, marks_by)
 
 after_tidy : (name : Name) (outcome : Outcome) (after : List Made) (v : View) → IsTidyTry name outcome v → AfterEnd name outcome after → Tidy (after ++ v)
-after_tidy name (Ended grains) after v h run = let now = h.ended grains refl in run_tidy (grain_of name) grains after v now.0 now.1 run
-after_tidy name (Refused read) after v h none = tidy_none after v none (h.refused read refl)
+after_tidy name (Ended grains) after v h run = run_tidy (grain_of name) grains after v h.0 h.1 run
+after_tidy name (Refused read) after v h none = tidy_none after v none h
 
 entry_tidy : (f : Profile) (entry : Settled) (steps : List Made) (v : View) → AreOfRegion f steps → EntrySteps entry steps → Tidy v → Tidy (steps ++ v)
 entry_tidy f entry steps v of h tidy =
@@ -307,20 +292,14 @@ try_tidy f keeper r v guards t is tidy = search (arith, tidy_both, raise_tidy, s
 swept_shown : (all : Bool) (k : ℕ) (guards kept : List Guard) (said : List Record) (steps : List Made) → Swept all k guards kept said steps → EachShown said
 swept_shown all k = swept_all CanShow k (λ s. tt) all
 
--- Each record of a keeper's try can be shown.
-try_shown : (f : Profile) (keeper : ℕ) (r : Request) (v : View) (guards : List Guard) (t : Tried) → IsTried f keeper r v guards t → AreOfRegion f t.steps
-    → EachShown t.records
-try_shown f keeper r v guards t is of = try_all CanShow keeper (λ s. tt) f r v guards t is
-    (records_shown f keeper is.raised (is.swept ++ v) (of_front f is.raised is.swept (subst (AreOfRegion f) is.steps_are of)))
-
 -- ---- short
 pub try_short : (f : Profile) (keeper : ℕ) (r : Request) (v : View) (guards : List Guard) (t : Tried) → IsTried f keeper r v guards t
     → length t.steps ≤ try_steps f r guards
 try_short f keeper r v guards t is = search (arith, length-append)
 
+-- by cases
 missed_few : (found : Option ℕ) (n : ℕ) → missed_steps found n ≤ 48 * n
-missed_few None n = omega arith
-missed_few (Some first) n = omega arith
+missed_few found n = search arith
 
 -- A keeper's try and its thread's own request after it make at most as many steps as a guarded request may.
 pub whole_short : {σ σ' : Standing} {tells found c c' answer : _} (keeper : ℕ) (r : Request) (v : View) (guards : List Guard) (t : Tried)
@@ -394,7 +373,8 @@ left_try : (f : Profile) (keeper : ℕ) (r : Request) (p : Progress) (t : Tried)
     → AreLeft f p (after_trying p keeper t)
 left_try f keeper r p t is =
     leaves_piece f keeper t.steps t.records p.list p.records (λ own tidy. try_tidy f keeper r (part keeper p.list) (p.books keeper) t is tidy)
-    (λ own. try_shown f keeper r (part keeper p.list) (p.books keeper) t is own)
+    (λ own. try_all CanShow keeper (λ s. tt) f r (part keeper p.list) (p.books keeper) t is
+    (records_shown f keeper is.raised (is.swept ++ part keeper p.list) (of_front f is.raised is.swept (subst (AreOfRegion f) is.steps_are own))))
 
 left_guarded : (f : Profile) (keeper : ℕ) (op : Op) (o : Option Request) (p q : Progress) → AnswersGuarded f keeper op o p q → AreLeft f p q
 left_guarded f keeper op None p q did of = absurd did
@@ -442,9 +422,9 @@ pub tried_shown : (f : Profile) (keeper : ℕ) (r : Request) (p : Progress) (t :
     → Legal f (after_trying p keeper t).list → EachShown p.records → EachShown (after_trying p keeper t).records
 tried_shown f keeper r p t is legal = (left_try f keeper r p t is (λ k. legal_part f (after_trying p keeper t).list k legal)).shown
 
+-- by cases
 later_kept : (t : Bool) (m : Made) (v : View) → KeptPart (if t then m ∷ v else v) → KeptPart v
-later_kept true m v all = all.1
-later_kept false m v all = all
+later_kept t m v all = search arith
 
 -- A list keeps stamps to the epochs of ends where each actor's part of it does.
 pub parts_kept : (l : Whole) → ((k : ℕ) → KeptPart (part k l)) → AllKeepToEnds l
@@ -487,17 +467,6 @@ abbrev pub GoInOrder : (way : Way) (threads : ℕ) (f : Profile) (acts : List Ac
 GoInOrder InOrder threads f acts p p' is = GoByIndexes InOrder f acts p p' is × RestBetween InOrder threads f acts p p' is
 GoInOrder OnThreads threads f acts p p' is = Unit {0}
 
-by_indexes : (way : Way) (threads : ℕ) (f : Profile) (acts : List Act) (p p' : Progress) (is : Reaches f acts p p') → GoInOrder way threads f acts p p' is
-    → GoByIndexes way f acts p p' is
-by_indexes InOrder threads f acts p p' is go = go.0
-by_indexes OnThreads threads f acts p p' is go = tt
-
--- Between two acts of a replay in order all rest.
-resting : (way : Way) (threads : ℕ) (f : Profile) (acts : List Act) (p p' : Progress) (is : Reaches f acts p p') → GoInOrder way threads f acts p p' is
-    → RestBetween way threads f acts p p' is
-resting InOrder threads f acts p p' is go = go.1
-resting OnThreads threads f acts p p' is go = tt
-
 -- Acts of a plan that were answered by a legal list, at whose end all actors have nothing, are a replay of the plan.
 pub replays : (way : Way) (plan : Plan) (reached : Progress) (whole : Whole) (records : List Record) → IsValid (region_of plan)
     → (answers : Reaches (region_of plan) (acts_of_plan plan) at_start reached)
@@ -524,8 +493,9 @@ replays way plan reached whole records valid answers one_order phases stages rec
   stamps = stamps_are way (region_of plan) (acts_of_plan plan) reached whole answers one_order legal valid;
   marks = true_marks (region_of plan) whole valid legal nothing;
   refusals = refusals;
-  indexes = by_indexes way (threads_of plan) (region_of plan) (acts_of_plan plan) at_start reached answers go;
-  rests = resting way (threads_of plan) (region_of plan) (acts_of_plan plan) at_start reached answers go;
+  -- in the order of the text `go` has both, and on threads nothing is said of them
+  indexes = search arith;
+  rests = search arith;
 }
 
 -- ---- one operation
@@ -558,8 +528,7 @@ module _ (f : Profile) (k : ℕ) (names : List Named) (c : Cached) (l : Whole) (
       → Legal f (triples k a.steps ++ l) → IsTrue (request_in_answer f k what b a is)
   operation_true limit asked (Alloc name heap size align) a is fit legal = request_true _ a is fit.1.0 legal
   operation_true limit asked (Guarded keeper name heap size align) a is fit legal = request_true _ a is fit.1.0 legal
-  operation_true limit asked (Remake name old heap size align) a is fit legal = remade_true name size align (standing_for names old) a is
-      (λ other of. record { within = fit.1.0.within; aligned = fit.1.0.aligned; of_profile = of }) legal
+  operation_true limit asked (Remake name old heap size align) a is fit legal = search (arith, remade_true)
   operation_true limit asked what a is fit legal = (tt, tt)
 
 -- ---- an act: an operation, and a guarded request that its thread answers

@@ -1,5 +1,5 @@
 -- What is so of each act of a plan, by what is so of its operations.
-use Rattle.std.{proofs.Common.{[], ℕ, zero, suc, ◌+◌, ◌≤◌, not, Bool, true, false, if◌then◌else◌, List, ◌∷◌, ◌++◌, map, arith}, specs.List.filter}
+use Rattle.std.{proofs.Common.{[], ℕ, zero, suc, ◌+◌, ◌≤◌, not, Bool, List, ◌∷◌, ◌++◌, map, arith}, specs.List.filter}
 use Rattle.pas_answers.proofs.Common.{AllByRecursion, all_both, Act, Ticks, MakesPass, ReadsEpoch, StopsIdle, MarksPhase, Wakes, MarksClose, Ends, Lowers}
 use Rattle.pas_answers.proofs.Common.{active_threads, idle_threads, acts_of_ops, phase_acts, close_acts, acts_from, acts_of, all_ops, Chore, Op}
 use Rattle.pas_trace.specs.Acts.{is_active, numbers_from, threads_where, acts_of_chore, acts_of_op}
@@ -34,11 +34,7 @@ numbers_within n k (suc m) le = (omega (arith, le), numbers_within n (k + 1) m (
 
 chosen_within : (n : ℕ) (chosen : ℕ → Bool) (ks : List ℕ) → AreWithin n ks → AreWithin n (filter chosen ks)
 chosen_within n chosen [] all = tt
-chosen_within n chosen (k ∷ ks) all = one_chosen (chosen k) (filter chosen ks) (chosen_within n chosen ks all.1)
-  where
-    one_chosen : (t : Bool) (js : List ℕ) → AreWithin n js → AreWithin n (if t then k ∷ js else js)
-    one_chosen true js rest = (all.0, rest)
-    one_chosen false js rest = rest
+chosen_within n chosen (k ∷ ks) all = let rest = chosen_within n chosen ks all.1 in grind (arith, rest)
 
 where_within : (n : ℕ) (chosen : ℕ → Bool) → AreWithin n (threads_where chosen n)
 where_within n chosen = chosen_within n chosen (numbers_from 1 n) (numbers_within n 1 n (omega arith))

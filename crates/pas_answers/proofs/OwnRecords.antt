@@ -2,9 +2,10 @@
 use Rattle.std.proofs.Common.{[], ◌≡◌, ◌≢◌, ℕ, ◌==◌, Bool, true, ◌||◌, if◌then◌else◌, List, ◌∷◌, ◌++◌, reverse, Option, refl, ap, sym, ◌∙◌, subst, map, eq-eqb}
 use Rattle.std.proofs.{Common.{ne_eqb, arith, zero, suc, ◌+◌, All}, lemmas.List.Elements.{All-nil, All-push, All-append}}
 use Rattle.pas_answers.proofs.Common.{AllByRecursion, Event, Outcome, Block, Profile, Guard, all_both, all_map, events_by, View, Made, Record, Said, CanShow}
-use Rattle.pas_answers.proofs.Common.{AreOfRegion, record_of, records_of_pass, records_of, said_by, said_of_guard, Tried, IsTried, Way, arranged, Request}
-use Rattle.pas_answers.{proofs.{Common.{SweptOne, Swept}, EachAct.{all_of, all_any}}, specs.Ways.{is_of, AreSpoken, EachOf, records_by, by_actors, by_phases}}
-use Rattle.pas_profile.{specs.declared.event.Outcome.TheVariants.Unbacked, proofs.Lists.all_reverse}
+use Rattle.pas_answers.proofs.Common.{AreOfRegion, record_of, records_of, said_by, said_of_guard, Tried, IsTried, Way, arranged, Request, SweptOne, Swept}
+use Rattle.pas_answers.{proofs.EachAct.{all_of, all_any}, specs.{PassRecords.records_of_pass, Ways.{is_of, AreSpoken, EachOf, records_by, by_actors}}}
+use Rattle.pas_answers.specs.Ways.{by_phases}
+use Rattle.pas_profile.proofs.Lists.{all_reverse}
 use Rattle.pas_guard.specs.Sweeps.{is_over}
 use Rattle.pas_steps.{specs.Events.actor_of, proofs.Events.events_own}
 use Rattle.pas_records.proofs.Showable.{steps_showable}
@@ -150,9 +151,9 @@ pub piece_shown : (f : Profile) (k : ℕ) (steps : List Made) (said : Option Sai
     → EachShown (records_of (events_by k v steps) ++ said_by k said)
 piece_shown f k steps said v of = piece_all CanShow k (events_by k v steps) said (steps_showable f k steps v of) (λ s. tt)
 
+-- by cases
 outcome_shown : (k epoch page : ℕ) (outcome : Outcome) → CanShow (record_of k epoch page outcome)
-outcome_shown k epoch page Unbacked = tt
-outcome_shown k epoch page outcome = tt
+outcome_shown k epoch page outcome = search arith
 
 -- The records of a pass can be shown.
 pub pass_shown : (k epoch : ℕ) (found : List (ℕ × Outcome)) → EachShown (records_of_pass k epoch found)

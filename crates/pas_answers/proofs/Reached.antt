@@ -2,41 +2,39 @@
 use Rattle.std.proofs.Common.{[], ◌≡◌, ℕ, ◌==◌, Bool, true, false, if◌then◌else◌, List, ◌∷◌, ◌++◌, ap, ◌∙◌, refl, inl, inr, Option, Some, None, sym, subst}
 use Rattle.std.proofs.Common.{append_assoc, MatchOption, ◌+◌, append-nil, map, eq-eqb, ◌≢◌, true≢false, length, arith, length-append, ◌<◌, ◌≤◌, ne_eqb}
 use Rattle.pas_answers.proofs.Common.{cases_eq, AllByRecursion, Profile, Block, Guard, IsValid, View, IsStepOf, triples, made, Agreed, Whole, part, Legal, Made}
-use Rattle.pas_answers.proofs.Common.{Tick, part_of_others, part_of_own, AreOfRegion, Way, InOrder, OnThreads, IsOneOrder, Progress, epoch_look, wanted_by}
-use Rattle.pas_answers.proofs.Common.{after_trying, Tried, IsTried, AreInPhases, AreOfThreads, Reaches, AnswersTried, AnswersGuarded, Advances, at_start}
-use Rattle.pas_answers.proofs.Common.{region_of, threads_of, keepers_of, phases_of, acts_of_plan, stages_of_plan, GoByStages, Act, Operates, Guards, Settles}
-use Rattle.pas_answers.proofs.Common.{Ticks, MakesPass, ReadsEpoch, StopsIdle, MarksPhase, Wakes, MarksClose, Ends, Lowers, active_threads, idle_threads}
-use Rattle.pas_answers.proofs.Common.{acts_of_ops, phase_acts, close_acts, acts_from, acts_of, request_in, work_of, all_ops, Request, Op, Plan, Chore, Work}
-use Rattle.pas_answers.{proofs.{Common.{MakesCalls, pages_of}, EachAct.{all_any, all_of_chore, all_of_close, all_acts}}, specs.Answers.Books}
-use Rattle.pas_answers.specs.{Guarding.after_lowering, Phases.{StandFirst, AtMark}, Stages.{Owners, Stage, AreSorted, in_hands, one_by_one, phase_stages}}
-use Rattle.pas_answers.specs.Stages.{stages_from, stages_of}
-use Rattle.pas_steps.{specs.{Agreement.Agrees, Lists.Triple}, proofs.Parts.each_part}
-use Rattle.pas_trace.specs.{Acts.{operation_in, act_kept, acts_of_work}, Asked.keeper_of}
+use Rattle.pas_answers.proofs.Common.{Tick, part_of_others, part_of_own, AreOfRegion, Way, IsOneOrder, Progress, epoch_look, wanted_by, after_trying, Tried}
+use Rattle.pas_answers.proofs.Common.{IsTried, AreInPhases, AreOfThreads, Reaches, AnswersTried, AnswersGuarded, Advances, at_start, region_of, acts_of_plan}
+use Rattle.pas_answers.proofs.Common.{stages_of_plan, GoByStages, Act, Operates, Guards, Settles, Ticks, MakesPass, ReadsEpoch, StopsIdle, MarksPhase, Wakes}
+use Rattle.pas_answers.proofs.Common.{MarksClose, Ends, Lowers, active_threads, idle_threads, acts_of_ops, phase_acts, close_acts, acts_from, acts_of}
+use Rattle.pas_answers.proofs.{Common.{request_in, work_of, all_ops, Request, Op, Plan, Chore, Work, MakesCalls, pages_of}, EachAct.{all_any, all_of_chore}}
+use Rattle.pas_answers.{proofs.EachAct.{all_of_close, all_acts}, specs.{Answers.with_book, Guarding.after_lowering, Phases.{StandFirst, AtMark}, Stages.Owners}}
+use Rattle.pas_answers.specs.Stages.{Stage, AreSorted, in_hands, one_by_one, phase_stages, stages_from, stages_of}
+use Rattle.pas_steps.{specs.Lists.Triple, proofs.Parts.each_part}
+use Rattle.pas_trace.specs.{Acts.{operation_in, stepper_of, act_kept, acts_of_work}, Asked.keeper_of}
 use Rattle.pas_guard.{specs.Keepers.{Call, IsKeeper}, proofs.Keepers.part_both}
 use Rattle.pas_core.proofs.{Choosing.{part_of_chosen, steps_by_all}, Nexts.agreed_steps}
 
 -- Two lists that are one order of each actor's steps have the same part of each actor.
 pub same_parts : (way : Way) (told whole : Whole) → IsOneOrder way told whole → (k : ℕ) → part k whole ≡ part k told
-same_parts InOrder told whole same k = ap (λ (l : Whole). part k l) same
-same_parts OnThreads told whole same k = same k
+same_parts way told whole same k = search arith
 
 -- it is so of each part
 abbrev pub Each : (View → Type 0) → Whole → Type 0
 Each P l = (k : ℕ) → P (part k l)
 
 -- ---- steps of the region
+-- by cases
 one_of : (f : Profile) (t : Bool) (m : Made) (v : View) → IsStepOf f m.step → AreOfRegion f v → AreOfRegion f (if t then m ∷ v else v)
-one_of f true m v one rest = (one, rest)
-one_of f false m v one rest = rest
+one_of f t m v one rest = search arith
 
 -- Each actor's part of a legal list has steps of the region alone.
 pub legal_part : (f : Profile) (l : Whole) (k : ℕ) → Legal f l → AreOfRegion f (part k l)
 legal_part f [] k legal = tt
 legal_part f (t ∷ l) k legal = one_of f (t.actor == k) t.made (part k l) legal.0.of_region (legal_part f l k legal.1)
 
+-- by cases
 later_of : (f : Profile) (t : Bool) (m : Made) (v : View) → AreOfRegion f (if t then m ∷ v else v) → AreOfRegion f v
-later_of f true m v all = all.1
-later_of f false m v all = all
+later_of f t m v all = search arith
 
 -- The later steps of a list that are of the region are so by themselves.
 pub of_front : (f : Profile) (ys xs : List Made) → AreOfRegion f (ys ++ xs) → AreOfRegion f ys
@@ -81,18 +79,11 @@ AreBy P (Before k steps earlier) = P k × AreBy P earlier
 
 -- the actors that make the steps of an act are so
 abbrev pub IsBy : (ℕ → Type 0) → Act → Type 0
-IsBy P (Operates op) = P op.actor
 IsBy P (Guards keeper op) = P keeper × P op.actor
 IsBy P (Settles k) = Unit {0}
-IsBy P (Ticks epoch) = P 0
-IsBy P MakesPass = P 0
-IsBy P ReadsEpoch = P 0
-IsBy P (StopsIdle k n) = P k
 IsBy P (MarksPhase n) = Unit {0}
-IsBy P (Wakes k) = P k
 IsBy P MarksClose = Unit {0}
-IsBy P (Ends k) = P k
-IsBy P (Lowers keeper) = P keeper
+IsBy P act = P (stepper_of act)
 
 -- the books are as they were, unless the act is one of a keeper
 abbrev SameBooks : Act → Progress → Progress → Type 0
@@ -176,10 +167,9 @@ begun_before whole k steps l begun = (begun.0 ++ triples k steps, begun.1 ∙ sy
 pub goes_on : (f : Profile) (acts : List Act) (p q : Progress) → Reaches f acts p q → (made : Whole) × (q.list ≡ made ++ p.list)
 goes_on f acts p q is = was_so f (Begins q.list) (begun_before q.list) acts p q is ([], refl)
 
+-- by cases
 at_mark : (act : Act) (So : Type 0) → So → AtMark act So
-at_mark (MarksPhase n) So so = so
-at_mark MarksClose So so = so
-at_mark act So so = tt
+at_mark act So so = search arith
 
 -- In the list of a replay in its own order, at each mark all steps of the acts before it are the first.
 pub in_phases : (f : Profile) (acts : List Act) (p q : Progress) (is : Reaches f acts p q) (whole : Whole) → (since : Whole) × (whole ≡ since ++ q.list)
@@ -244,8 +234,7 @@ by_one_list f (s ∷ ss) p q is =
 pub plan_by_one_list : (plan : Plan) (p : Progress) → Reaches (region_of plan) (acts_of_plan plan) at_start p
     → GoByStages (region_of plan) (stages_of_plan plan) at_start p [] p.list
 plan_by_one_list plan p is =
-    by_one_list (region_of plan) (stages_of_plan plan) at_start p
-    (subst (λ (acts : List Act). Reaches (region_of plan) acts at_start p) (sym (acts_of_stages (threads_of plan) (keepers_of plan) (phases_of plan))) is)
+    search (arith, by_one_list, acts_of_stages)
 
 -- ---- stages one behind the other
 pub both_by_stages : (f : Profile) (ss ts : List Stage) (p q r : Progress) (a b c : Whole) → GoByStages f ss p q a b → GoByStages f ts q r b c
@@ -323,8 +312,7 @@ IsUpTo n act = Unit {0}
 
 -- ---- the acts of a plan
 kept_up : (n : ℕ) (keeper : Option ℕ) (op : Op) → AllByRecursion (IsUpTo n) (act_kept keeper op ∷ (Settles op.actor ∷ []))
-kept_up n None op = (tt, (tt, tt))
-kept_up n (Some keeper) op = (tt, (tt, tt))
+kept_up n keeper op = search arith
 
 work_up : (n : ℕ) (idle : List ℕ) (op : Op) (work : Work) → AllByRecursion (λ j. j ≤ n) idle → AllByRecursion (IsUpTo n) (acts_of_work idle op work)
 work_up n idle op (Work.Own task) all = kept_up n (keeper_of task) op
@@ -336,52 +324,35 @@ HasCalls f keeper p = (calls : List Call) × MakesCalls f keeper calls (p.books 
 
 has_still : (f : Profile) (keeper : ℕ) (p q : Progress) → q.books keeper ≡ p.books keeper → part keeper q.list ≡ part keeper p.list → HasCalls f keeper p
     → HasCalls f keeper q
-has_still f keeper p q books list has = (
-  has.0,
-  subst (λ (gs : List Guard). MakesCalls f keeper has.0 gs (part keeper q.list)) (sym books)
-      (subst (λ (v : View). MakesCalls f keeper has.0 (p.books keeper) v) (sym list) has.1),
-)
+has_still f keeper p q books list has = rw (books, list) has
 
--- its own try
-own_tried : (f : Profile) (j : ℕ) (r : Request) (p : Progress) (t : Tried) → IsTried f j r (part j p.list) (p.books j) t → HasCalls f j p
-    → HasCalls f j (after_trying p j t)
-own_tried f j r p t is has =
-    let v = part j p.list in
-    let calls = Call.Raise r.heap (pages_of (wanted_by f r)) t.block ∷ (Call.Sweep false is.lowered ∷ has.0) in
-    let made_so : MakesCalls f j calls t.guards (is.raised ++ (is.swept ++ v)) = (is.left, is.swept ++ v, is.raised, (p.books j, v, is.swept, has.1, is.sweep, refl), is.raise, refl) in
-    let list : part j (after_trying p j t).list ≡ is.raised ++ (is.swept ++ v) = part_of_own j t.steps p.list ∙ ap (λ (ms : List Made). ms ++ v) is.steps_are ∙ append_assoc is.raised is.swept v in
-    let book : (after_trying p j t).books j ≡ t.guards = ap (λ (b : Bool). if b then t.guards else p.books j) (eq-eqb j j refl) in
-    (calls, rw (book, list) made_so)
+-- Steps of a keeper that are calls with its book leave each keeper with calls.
+call_has : (f : Profile) (keeper j : ℕ) (steps : List Made) (guards : List Guard) (p q : Progress) → q.list ≡ triples j steps ++ p.list
+    → q.books ≡ with_book p.books j guards → (HasCalls f j p → (calls : List Call) × MakesCalls f j calls guards (steps ++ part j p.list))
+    → HasCalls f keeper p → HasCalls f keeper q
+call_has f keeper j steps guards p q list books own has = search (arith, cases_eq, eq-eqb, part_of_own, has_still, ne_eqb, part_of_others)
 
+-- a try
 try_has : (f : Profile) (keeper j : ℕ) (r : Request) (p : Progress) (t : Tried) → IsTried f j r (part j p.list) (p.books j) t → HasCalls f keeper p
     → HasCalls f keeper (after_trying p j t)
-try_has f keeper j r p t is has = elim (cases_eq j keeper) [
-  | inl same ↦ subst (λ (i : ℕ). HasCalls f i (after_trying p j t)) same (own_tried f j r p t is (subst (λ (i : ℕ). HasCalls f i p) (sym same) has))
-  | inr other ↦ has_still f keeper p (after_trying p j t) (ap (λ (b : Bool). if b then t.guards else p.books keeper) (ne_eqb keeper j (λ e. other (sym e)))) (part_of_others keeper j t.steps p.list other) has
-]
+try_has f keeper j r p t is = call_has f keeper j t.steps t.guards p (after_trying p j t) refl refl (λ has.
+    let v = part j p.list in
+    let calls = Call.Raise r.heap (pages_of (wanted_by f r)) t.block ∷ (Call.Sweep false is.lowered ∷ has.0) in
+    let made_so : MakesCalls f j calls t.guards (is.raised ++ (is.swept ++ v)) =
+    (is.left, is.swept ++ v, is.raised, (p.books j, v, is.swept, has.1, is.sweep, refl), is.raise, refl) in
+    (calls, subst (MakesCalls f j calls t.guards) (sym (ap (λ (ms : List Made). ms ++ v) is.steps_are ∙ append_assoc is.raised is.swept v)) made_so))
 
--- its own last sweep
+-- a last sweep
 lowered_has : (f : Profile) (keeper j : ℕ) (p q : Progress) → Advances f (Lowers j) p q → HasCalls f keeper p → HasCalls f keeper q
-lowered_has f keeper j p q did has =
-    let steps = did.0 in let said = did.1 in rw did.3 (elim (cases_eq j keeper) [
-      | inl same ↦
-          let own : HasCalls f j p = subst (λ (i : ℕ). HasCalls f i p) (sym same) has in
-          let calls = Call.Sweep true said ∷ own.0 in
-          let made_so : MakesCalls f j calls [] (steps ++ part j p.list) = (p.books j, part j p.list, steps, own.1, did.2.sweep, refl) in
-          let book : (after_lowering p j steps said).books j ≡ [] = ap (λ (b : Bool). if b then [] else p.books j) (eq-eqb j j refl) in
-          subst (λ (i : ℕ). HasCalls f i (after_lowering p j steps said)) same (calls, rw (book, part_of_own j steps p.list) made_so)
-      | inr other ↦ has_still f keeper p (after_lowering p j steps said)
-          (ap (λ (b : Bool). if b then [] else p.books keeper) (ne_eqb keeper j (λ e. other (sym e)))) (part_of_others keeper j steps p.list other) has
-    ])
+lowered_has f keeper j p q did has = rw did.3 (call_has f keeper j did.0 [] p (after_lowering p j did.0 did.1) refl refl
+    (λ own. (Call.Sweep true did.1 ∷ own.0, (p.books j, part j p.list, did.0, own.1, did.2.sweep, refl))) has)
 
 -- the threads are so many, and the keeper stands behind them
 module _ (f : Profile) (n keeper : ℕ) (lt : n < keeper) where
   -- An act of threads and the scavenger leaves its part and its book.
   still : (act : Act) (p q : Progress) → Advances f act p q → IsBy (λ k. k ≤ n) act → q.books ≡ p.books → HasCalls f keeper p → HasCalls f keeper q
   still act p q did by books has =
-      let on = put_on f act p q did in
-      let past = pieces_past (λ k. k ≤ n) keeper (λ k le same. omega (arith, lt, le, same)) on.0 p.list (on.4 (λ k. k ≤ n) by) in
-      has_still f keeper p q (ap (λ (bs : Books). bs keeper) books) (ap (part keeper) on.1 ∙ past) has
+      search (arith, put_on, pieces_past, has_still)
 
   tried_has : (op : Op) (r : Request) (block : Option Block) (p q : Progress) → op.actor ≤ n → AnswersTried f op r block p q → HasCalls f keeper p
       → HasCalls f keeper q
@@ -419,14 +390,13 @@ calls_alone f keeper threads keepers phases p q lt of is none empty =
 -- ---- so it is a keeper, as the laws of guards speak of one
 legal_agreed : (f : Profile) (l : Whole) → IsValid f → Legal f l → (k : ℕ) → Agreed f [] (part k l)
 legal_agreed f l valid legal k = each_part f (λ l k v. Agreed f [] v) (λ k. tt) (λ t l legal before. (
-  subst (λ (w : View). Agrees f w t.made.step t.made.answer)
-      (sym (append-nil (part t.actor l))) (agreed_steps f t.actor l (t.made ∷ []) valid legal).0,
+  rw append-nil (agreed_steps f t.actor l (t.made ∷ []) valid legal).0,
   before,
 )) (λ t l k legal ne before. before) l legal k
 
+-- by cases
 not_fewer : (t : Bool) (m : Made) (v : View) → length v ≤ length (if t then m ∷ v else v)
-not_fewer true m v = omega arith
-not_fewer false m v = omega arith
+not_fewer t m v = search arith
 
 -- A part grows with its list.
 longer : (k : ℕ) (l m : Whole) → length (part k m) ≤ length (part k (l ++ m))

@@ -3,20 +3,20 @@ use Rattle.std.proofs.Common.{[], ◌≡◌, ℕ, ◌+◌, ◌-◌, ◌<◌, ◌
 use Rattle.std.proofs.Common.{subst, arith, ◌*◌, ◌/◌, ◌%◌, max, MatchResult, true, false, if◌then◌else◌, nat_le, le-leb, length-append, append_assoc, leb-true}
 use Rattle.std.proofs.{lemmas.Bool.cases_lt, Math.Nat.{mul-mod_left, mod-add-div', mul_assoc}}
 use Rattle.pas_answers.proofs.Common.{same_Some, deed_word_of, address_of, grain_of, length_of, IsAlignment, entry_of, IsValid, IsAdmitted, Profile, Directory}
-use Rattle.pas_answers.proofs.Common.{Route, Event, NoRoom, Block, Name, Entry, Made, View, KnowsDeed, Agreed, events_by, Standing, CanCall, Seat, Whole, part}
-use Rattle.pas_answers.proofs.Common.{Legal, agreed_first, agreed_later, adds_none, can_call, unknown_no_more, Spares, spare_falls, events_append, call_none}
+use Rattle.pas_answers.proofs.Common.{Route, Event, NoRoom, Block, Name, Entry, Made, View, Agreed, events_by, Standing, CanCall, Whole, part, Legal}
+use Rattle.pas_answers.proofs.Common.{agreed_first, agreed_later, adds_none, can_call, unknown_no_more, Spares, spare_falls, events_append, call_none}
 use Rattle.pas_answers.proofs.Common.{call_then, next_call, Request, Task, What, Alloc, Free, FreeSized, Remake, Stop, Work, cost_of_size, IsRoomNamed}
 use Rattle.pas_answers.proofs.Common.{large_cost, Cached, AtRest, EmptiesFull, AllocatesPages, TakesEntry, Wanted, wanted_for, pages_of, is_large, pages_asked}
 use Rattle.pas_answers.proofs.Common.{named as the_name, block_of, said_by, IsGiven, Named, standing_for, entry_with, having, Answer, request_for, IsRemadeBy}
-use Rattle.pas_answers.proofs.Common.{IsAnswered, IsNamedFor, request_made, IsFitWhat, cost_of_what, what_of, IsBlockOf, MayStand, PerformsMeant, block_behind}
-use Rattle.pas_answers.{proofs.{Common.{IsMeant, IsKnown, named_by, EndedRun, Said, Guarded}, SingleActs.task_of}, specs.Answers.{answer_of, said_of_request}}
-use Rattle.pas_answers.specs.{Answers.{RefusalEnds, RequestEnds, suits, said_of_room}, Indexes.unless_suited, Fit.{IsFitTask, IsFitWork}, Calls.owed_events}
+use Rattle.pas_answers.proofs.Common.{IsAnswered, IsNamedFor, request_made, IsFitWhat, what_of, IsBlockOf, MayStand, PerformsMeant, block_behind, IsMeant}
+use Rattle.pas_answers.{proofs.{Common.{IsKnown, named_by, EndedRun, Said}, SingleActs.task_of}, specs.Fit.{cost_of_what, IsFitTask, IsFitWork}}
+use Rattle.pas_answers.specs.{Answers.{answer_of, said_of_request, RefusalEnds, RequestEnds, suits, said_of_room}, Indexes.unless_suited, Calls.owed_events}
 use Rattle.pas_answers.specs.{Calls.{MayPerform, Serves, events_for, FreesOne}, Moves.{flush_of_full, MayMove, Moves}}
+use Rattle.pas_steps.{specs.{Views.KnowsDeed, Lists.visible}, proofs.{Unknown.{has_room, none_unknown}, Called.call_as}}
 use Rattle.pas_trace.{specs.{declared.plan.What.TheVariants.{Raw, Flush}, Asked.cost_of_task}, proofs.{Costs.{small_cost, some_cost}, Rooms.room_named}}
 use Rattle.pas_profile.specs.{Directories.IsDirectory, Profiles.{IsPage, IsDirectoryOf}, declared.event.FreeFault.FreeFault, Routes.{room_by, IsRouteOf}}
 use Rattle.pas_profile.{specs.Requests.{route_in, room_in}, proofs.{Sizes.{route_is, class_known, class_size_whole}, Codecs.directory_from_profile}}
 use Rattle.pas_profile.proofs.Codecs.{deed_word_of-positive}
-use Rattle.pas_steps.{specs.Lists.visible, proofs.{Unknown.{has_room, none_unknown}, Called.call_as}}
 use Rattle.pas_cache.specs.Calls.{Allocates, most_events, IsNamed, MayRequestBy, MayRequest, AllocatesBy, AllocatesRequest, Frees, FlushesLog, StopsCache}
 use Rattle.pas_cache.specs.{Calls.Rests, Serves.{IsBlockFor, IsSilent, MakesFew, MakesAtMost, MakesDeedsOf}, Names.{IsInRegion, IsFaultOf}}
 use Rattle.pas_cache.{specs.declared.moving.Moved.{TheVariants.{Kept, New}, Moved}, proofs.Routes.{is_small, small_may, small_did, none_named}}
@@ -34,8 +34,7 @@ can_request {σ} c name heap size align spare can = can_call adds_none can (λ v
     let f = σ.seat.profile in
     elim (cases_lt 2048 size) [
       | inl large ↦
-          let route = is_large f.classes size align large in
-          rw route (record { rest = met.rest; room = omega (arith, met.room, large_cost size large, pages_asked f size align route) })
+          search (arith, is_large, large_cost, pages_asked)
       | inr small ↦ small_may (room_in f size align / 4096) (route_in f size align) (is_small f.classes size align small)
           (record { rest = met.rest; room = has_room f 2 spare v (omega (arith, met.room, small_cost size small)) })
     ])
@@ -44,11 +43,11 @@ can_request {σ} c name heap size align spare can = can_call adds_none can (λ v
 silent_ends : (r : Route) (d : Directory) (es : List Event) → es ≡ [] → RefusalEnds r d es
 silent_ends route d es none = search arith
 
+-- by cases
 small_few : (f : Profile) (w : Wanted) (Meets : View → Type 0) (steps : List Made) (cost : ℕ) (answer : Result Block NoRoom) → cost ≡ 2
     → MakesFew f Meets 2 steps → MatchResult answer (IsBlockFor f w Meets steps) (λ room. IsSilent steps)
     → MakesAtMost f Meets (events_for cost answer) steps
-small_few f w Meets steps cost (Ok block) two few of = λ k v met agreed. let paid = (few k v met agreed).paid in omega (arith, paid, two)
-small_few f w Meets steps cost (Err room) two few silent = search (arith, length, unknown_no_more)
+small_few f w Meets steps cost answer two few of = search (arith, unknown_no_more)
 
 serves_small : {σ σ' : Standing} {answer : Result Block NoRoom} {tells : Bool} (c c' : Cached) (heap size align : ℕ) → size ≤ 2048
     → Allocates (wanted_for σ.seat.profile heap size align) tells c c' σ σ' answer
@@ -136,16 +135,10 @@ given_stands {σ} c c' name heap size align spare block valid admitted can call 
 -- what is known of its give, by one view
 is_given : (f : Profile) (k : ℕ) (w : Wanted) (c : Cached) (steps : List Made) (block : Block) (v : View) → AtRest f c v → Agreed f v steps
     → IsBlockFor f w (AtRest f c) steps block → IsGiven k w v steps block
-is_given f k w c steps block v rest agreed of = record {
-  of_heap = of.of_heap;
-  room = of.room;
-  placed = of.placed;
-  aligned = of.aligned;
-  of_directory = λ g inside. of.deeds.from v rest agreed g inside;
-  before = (of.events k v).0;
-  events = (of.events k v).1;
-  prepared = (of.events k v).2;
-}
+is_given f k w c steps block v rest agreed of =
+    let deeds = of.deeds.from v rest agreed in
+    let made = of.events k v in
+    search arith
 
 -- ---- a request
 module _ (σ σ' : Standing) (c c' : Cached) (name heap size align : ℕ) (found : Option ℕ) where
@@ -183,16 +176,6 @@ module _ (σ σ' : Standing) (c c' : Cached) (name heap size align : ℕ) (found
     },
     named_for σ.seat.profile name heap size align Answers Same found named,
   )
-
--- what answers the request answers the guarded one, which costs more
-pub guarded_performs : {σ σ' c c' name heap size align meant came said : _} (Answers : ℕ → ℕ → Option ℕ → Type 0) (Same : Type 0) (keeper : ℕ)
-    → (did : PerformsMeant (Alloc name heap size align) meant came c c' σ σ' said)
-    × IsNamedFor σ.seat.profile Answers Same (request_made (Alloc name heap size align) meant) did.found
-    → (did : PerformsMeant (Guarded keeper name heap size align) meant came c c' σ σ' said)
-    × IsNamedFor σ.seat.profile Answers Same (request_made (Guarded keeper name heap size align) meant) did.found
-guarded_performs Answers Same keeper is =
-    let did = is.0 in
-    (record { steps = did.steps; found = did.found; calls = did.calls; few = λ v rest agreed. let few = did.few v rest agreed in omega (arith, few); answered = did.answered; others = did.others }, is.1)
 
 -- ==== A block gets another size.
 
@@ -258,8 +241,7 @@ can_free {σ} {σ1} heap size align spare c c1 block r can =
     let f = σ.seat.profile in
     let w = wanted_for f heap size align in
     let s = serves c c1 heap size align r in
-    subst (λ (t : Seat). CanCall σ1 (AtRest t.profile c1)) (sym s.calls.adds.seat_is)
-    (next_call s.calls (record { view = can.view; whole = can.whole; stood = can.stood; met = at_rest w.route f c (pages_of w) (spare - flush_of_full c.log) can.view can.met }) (λ v met rests. rests))
+    search (arith, next_call, at_rest)
 
 -- the old name is on a page of the region, at a multiple of 16
 pub no_fault : (f : Profile) (name : Name) (fault : FreeFault) → IsInRegion f name → IsFaultOf f name fault → ⊥
@@ -275,21 +257,7 @@ gives_other {σ} {σ1} {σ2} Answers Same wanted found old size align c c1 c2 bl
     record {
       steps = free.steps ++ s.steps;
       calls = call_then (λ v w. AtRest f c2 w) s.calls free.calls (λ v met rests. rw s.calls.adds.seat_is rests) (λ v met rests freed. rw s.calls.adds.seat_is at freed);
-      moved = record {
-        unsuited = unsuited;
-        placed = s.steps;
-        freed = free.steps;
-        between = c1;
-        found = found;
-        named = named;
-        serves = s.change;
-        kinds = s.kinds;
-        few = s.few;
-        block_for = s.outcome;
-        same_log = s.log_is;
-        logs = subst (λ (t : Seat). TakesEntry t.profile t.actor c1 c2 (entry_of old.name) free.steps) s.calls.adds.seat_is free.outcome;
-        steps_are = refl;
-      };
+      moved = search arith;
     }
 
 -- ==== What frees, flushes and stops promise, and how many events their actor owes.
@@ -371,9 +339,12 @@ performs_skip meant c Answers Same name (Some room) named same = (
 -- ---- a flush and a stop
 pub performs_flush : {σ σ' : Standing} (meant : Option Block) (c c' : Cached) → FlushesLog c c' σ σ' → PerformsMeant Flush meant None c c' σ σ' None
 performs_flush {σ} meant c c' flushes = performs_without Flush meant c c' flushes.steps flushes.calls (λ v rest agreed.
-    let none = ap (λ (d : Cached). length d.log) flushes.cache in
-    let unknown = unknown_no_more σ.seat.profile flushes.steps v agreed in
-    omega (arith, emptied_events σ.seat.actor c.log c.noted c'.noted flushes.steps v flushes.empties, none, unknown))
+    omega (
+      arith,
+      emptied_events σ.seat.actor c.log c.noted c'.noted flushes.steps v flushes.empties,
+      ap (λ (d : Cached). length d.log) flushes.cache,
+      unknown_no_more σ.seat.profile flushes.steps v agreed,
+    ))
     (λ v names means known. (record { empties = flushes.empties; cache = flushes.cache }, refl, refl))
 
 -- A stop of the cache performs what a stop means.
@@ -384,20 +355,7 @@ performs_stop {σ} meant c c' stops = performs_without Stop meant c c' (stops.st
     let all = ap (λ (es : List Event). length es) (events_append σ.seat.actor stops.stopped stops.flushed v
     ∙ ap (λ (es : List Event). es ++ events_by σ.seat.actor v stops.flushed) (stops.silent σ.seat.actor (stops.flushed ++ v))) in
     omega (arith, events, all, ap (λ (d : Cached). length d.log) stops.cache, unknown_no_more σ.seat.profile (stops.stopped ++ stops.flushed) v agreed))
-    (λ v names means known. (
-      record {
-        flushed = stops.flushed;
-        stopped = stops.stopped;
-        empties = stops.empties;
-        stops = stops.stops;
-        kinds = stops.kinds;
-        silent = stops.silent σ.seat.actor;
-        cache = stops.cache;
-        steps_are = refl;
-      },
-      refl,
-      refl,
-    ))
+    (λ v names means known. (search arith, refl, refl))
 
 -- ==== What a reallocation promises.
 
@@ -488,8 +446,7 @@ module _ (σ σ' : Standing) (c c' : Cached) (name n heap size align : ℕ) (old
           steps = m.steps;
           found = is.found;
           calls = m.calls;
-          few = λ v rest agreed.
-              omega (arith, is.few k v rest agreed, ap (λ (es : List Entry). length es) is.same_log);
+          few = search arith;
           answered = λ v l stood rest names means known.
               let placed : Answer = answer_of m.steps (Some message) is.found (the_name name None ∷ names) c' in
               by_meant names v placed means known (inr record {

@@ -4,10 +4,10 @@ use Rattle.std.proofs.Common.{length-append, eq-eqb, ne_eqb, sym, map, append-ni
 use Rattle.std.proofs.lemmas.{List.reverse-append, Grind.flat_map-append}
 use Rattle.pas_answers.proofs.Common.{length-reverse, length-map, Profile, Event, Outcome, Word, Block, IsValid, Cached, Named, epoch_look, records_of}
 use Rattle.pas_answers.proofs.Common.{standing_for, block_of, Having, Answer, named, IsAnswered, IsKnown, MayStand, what_of, block_behind, IsMeant, named_by}
-use Rattle.pas_answers.proofs.Common.{IsFitWhat, request_made, record_of, records_of_pass, Act, asked_after, What, Free, FreeSized, Remake, Alloc, Guarded}
-use Rattle.pas_answers.proofs.Common.{Task, Work, work_of, Request, Record, Said, Calls, HasNothing, LookEpoch, Standing, made, Look, Tick, call_none}
-use Rattle.pas_answers.specs.{Answers.{Caches, with_cache}, Calls.{AreKnown, named_with, freed_by}, Fit.sum_over, Indexes.request_by, PassRecords.event_in}
-use Rattle.pas_answers.specs.{PassRecords.events_in, TicksAndPasses.{ticking, AnswersTick, AnswersPass}, Names.MayPack}
+use Rattle.pas_answers.proofs.Common.{IsFitWhat, request_made, record_of, Act, asked_after, What, Free, FreeSized, Remake, Alloc, Guarded, Task, Work, work_of}
+use Rattle.pas_answers.{proofs.Common.{Request, Record, Said, Calls, HasNothing, LookEpoch, Standing, made, Look, Tick, call_none}, specs.Answers.Caches}
+use Rattle.pas_answers.specs.{Answers.with_cache, Calls.{AreKnown, named_with, freed_by}, Fit.sum_over, Indexes.request_by, PassRecords.{event_in, events_in}}
+use Rattle.pas_answers.specs.{TicksAndPasses.{ticking, AnswersTick, AnswersPass}, Names.MayPack}
 use Rattle.pas_trace.specs.{Asked.{request_of, of_task, freed_of}, EveryPlan.{asked_with, is_asked}}
 use Rattle.pas_steps.{specs.Desks.Makes, proofs.{Called.call_step, Calls.does_idly, Nothing.nothing_still}}
 use Rattle.pas_scavenger.{specs.{Pages.unback_of, Passes.{unbacks_in, Passes}}, proofs.Examinations.one_unback}
@@ -93,9 +93,7 @@ pub pass_answered : {σ σ' epoch found : _} (spare spare' actor : ℕ) (listed 
 pass_answered {σ} {σ'} {epoch} {found} spare spare' actor listed before marked after passes fell own same mark added = record {
   epoch = epoch;
   passes = passes;
-  added = added ∙ ap (λ ps. marked ++ map (λ p. record_of actor epoch p.0 p.1) ps) same ∙ ap (λ rs. rs ++ map (λ p. record_of actor epoch p.0 p.1) found) mark
-      ∙ append_assoc before (Record.Said actor (Said.Pass epoch) ∷ []) (map (λ p. record_of actor epoch p.0 p.1) found)
-      ∙ ap (λ k. before ++ records_of_pass k epoch found) (own ∙ ap (λ s. s.actor) passes.calls.adds.seat_is);
+  added = search (arith, append_assoc);
   shown = λ v. outcomes_shown σ.seat.actor epoch found ∙ ap reverse (sym (passes.order.events v));
   spare_is = fell;
 }

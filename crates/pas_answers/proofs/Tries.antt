@@ -3,14 +3,14 @@ use Rattle.std.proofs.Common.{[], ◌≡◌, ℕ, ◌+◌, ◌<◌, ◌≤◌, �
 use Rattle.std.proofs.{Common.{append_assoc, append-nil, map, reverse, ◌*◌, ◌/◌, ◌%◌, Bool, true, false, refl, true≢false, ◌-◌, ◌^◌}, Math.Seq.drop-append_seam}
 use Rattle.std.proofs.Math.Nat.{zero-mod}
 use Rattle.pas_answers.proofs.Common.{length-reverse, length-map, same_Some, AllByRecursion, Event, Block, Directory, Route, Profile, Guard, address_of}
-use Rattle.pas_answers.proofs.Common.{grain_of, length_of, IsAlignment, all_both, all_map, Made, Step, View, KnowsDeed, events_by, Whole, Agreed, Calls}
-use Rattle.pas_answers.proofs.Common.{Standing, triples, CanCall, Seat, Only, returning, kind_of, is_in, events_append, agreed_first, agreed_later, call_then}
-use Rattle.pas_answers.proofs.Common.{next_call, Spares, spare_falls, unknown_no_more, What, Request, cost_of_size, large_cost, Cached, AtRest, Wanted}
-use Rattle.pas_answers.proofs.Common.{wanted_for, pages_of, is_large, pages_asked, records_of, said_by, wanted_by, IsGiven, PerformsMeant, IsBlockOf, MayStand}
-use Rattle.pas_answers.proofs.Common.{said_of_guard, raised_backs, raised_leaves, seeking, RaiseSteps, IsRaised, sweeping, SweptOne, Swept, SweepSteps}
-use Rattle.pas_answers.{proofs.Common.{large_directory, give_steps, records_in, room_of, Record, Said}, specs.Calls.{MayAnswer, AnswersMeant}}
-use Rattle.pas_answers.specs.{Guarding.TryEnds, Keeping.{owed_by_keeper, MayTry, cost_of_try, TriesRequest, LowersAll}}
-use Rattle.pas_steps.specs.{Unknown.unknown_pages, declared.step.Step.TheVariants.Deed, Events.events_of, Desks.Adds, Noted.ShowsRest}
+use Rattle.pas_answers.proofs.Common.{grain_of, length_of, IsAlignment, all_both, all_map, Made, Step, View, events_by, Whole, Agreed, Calls, Standing, triples}
+use Rattle.pas_answers.proofs.Common.{CanCall, Only, returning, kind_of, is_in, events_append, agreed_first, agreed_later, call_then, next_call, Spares}
+use Rattle.pas_answers.proofs.Common.{spare_falls, unknown_no_more, What, Request, cost_of_size, large_cost, Cached, AtRest, Wanted, wanted_for, pages_of}
+use Rattle.pas_answers.proofs.Common.{is_large, pages_asked, records_of, said_by, wanted_by, IsGiven, PerformsMeant, IsBlockOf, MayStand, said_of_guard}
+use Rattle.pas_answers.proofs.Common.{raised_backs, raised_leaves, seeking, RaiseSteps, IsRaised, sweeping, SweptOne, Swept, large_directory, give_steps}
+use Rattle.pas_answers.{proofs.Common.{records_in, room_of, Record, Said}, specs.{Calls.{MayAnswer, AnswersMeant}, Guarding.TryEnds, Keeping.owed_by_keeper}}
+use Rattle.pas_answers.specs.Keeping.{MayTry, cost_of_try, TriesRequest, LowersAll}
+use Rattle.pas_steps.specs.{Desks.{Seat, Adds}, Unknown.unknown_pages, declared.step.Step.TheVariants.Deed, Events.events_of, Noted.ShowsRest}
 use Rattle.pas_steps.proofs.{Frames.{events_split, knows_still}, Noting.rest_more, Apart.{no_events, events_same}, Events.{ComesOf, comes_of, each_event}}
 use Rattle.pas_steps.proofs.Past.{always_pair}
 use Rattle.pas_cache.{specs.Serves.{IsDeedOf, IsPreparing}, proofs.Routes.{backs_only, deed_prepares}}
@@ -132,18 +132,7 @@ fewer_up {σ} {all = all} {guards = guards} {guards' = guards'} s = let count = 
 pub lowers_all : {σ σ' book book' out out' : _} → Sweeps true (guards_in book) (guards_in book') (records_in out) (records_in out') σ σ'
     → room_of out' ≡ room_of out → size_of_book book' ≡ size_of_book book → LowersAll book book' out out' σ σ'
 lowers_all {σ} {book = book} {book' = book'} s room size =
-    let gone = all_gone σ.seat.actor (guards_in book) (guards_in book') s.more s.steps s.sweep.swept in
-    record {
-      steps = s.steps;
-      said = s.more;
-      calls = sweep_call s;
-      lowered = λ v met. record { fits = met; sweep = subst (λ (gs : List Guard). SweepSteps σ.seat.profile σ.seat.actor true (guards_in book) gs s.more s.steps) gone s.sweep };
-      none = gone;
-      added = s.added;
-      few = omega (arith, swept_count true σ.seat.actor (guards_in book) (guards_in book') s.more s.steps s.sweep.swept);
-      room = room;
-      size = size;
-    }
+    search (arith, all_gone, sweep_call, swept_count)
 
 -- ---- what a raise made
 deed_sought : (d : Directory) (k : ℕ) (s : Step) (a : ℕ) (e : Event) → is_in seeking (kind_of s) ≡ true
@@ -222,8 +211,7 @@ module _ (f : Profile) (heap n : ℕ) (guards guards' : List Guard) (steps : Lis
               let page : in_span (up.first + 1) (up.first + 1 + n) (g / 256) ≡ true = sym (run_is d (up.first + 1) n up.word g) ∙ ap (λ (b : Block). in_run (grain_of b.name) (length_of b) g) (sym up.block_is) ∙ inside in
               let at = in_parts (up.first + 1) (up.first + 1 + n) (g / 256) page in
               let before = span.got.deeds (g / 256) (span_in up.first (up.first + (n + 2)) (g / 256) (omega (arith, at.0)) (omega (arith, at.1))) in
-              subst (λ (w : View). KnowsDeed (g / 256) d w) (sym (append_assoc is.after is.searched v) ∙ ap (λ (xs : List Made). xs ++ v) (sym is.steps_are))
-              (knows_still f d (g / 256) is.after (is.searched ++ v) (agreed_first f v is.after is.searched all) before);
+              rw (is.steps_are, append_assoc) (knows_still f d (g / 256) is.after (is.searched ++ v) (agreed_first f v is.after is.searched all) before);
           before = events_by k (is.searched ++ v) up.backs ++ events_by k v is.searched;
           events = events_are k v;
           prepared = all_both (IsPreparing d) (events_by k (is.searched ++ v) up.backs) (events_by k v is.searched)
@@ -418,23 +406,11 @@ module _ {σ σ1 σ2 : Standing} (r : Request) (book book1 book2 : GuardBook) (o
     tried = λ v l stood met.
         let agreed = both_agreed v l stood met in
         let first = agreed_later f v u.steps s.steps agreed in
-        let shown = shown_of old new before after v l stood met in (
-          told v,
-          record {
-            fits = met;
-            swept = s.steps;
-            left = guards1;
-            lowered = s.more;
-            sweep = s.sweep;
-            raised = u.steps;
-            raise = subst (λ (m : ℕ). RaiseSteps f r.heap m guards1 guards2 answer u.steps) (count_wanted f r n is large) raise_so;
-            ends = ends_by f k n r guards1 guards2 u.steps (s.steps ++ v) answer is large alignment raise_so (fits_then v met first) (agreed_first f v u.steps s.steps agreed);
-            steps_are = refl;
-            records_are = refl;
-          },
-          search (arith, shown, append_assoc),
-          paid v agreed,
-        );
+        let shown = shown_of old new before after v l stood met in
+        let raise = subst (λ (m : ℕ). RaiseSteps f r.heap m guards1 guards2 answer u.steps) (count_wanted f r n is large) raise_so in
+        let ends = ends_by f k n r guards1 guards2 u.steps (s.steps ++ v) answer is large alignment raise_so (fits_then v met first)
+        (agreed_first f v u.steps s.steps agreed) in
+        (told v, search arith, search (arith, shown, append_assoc), paid v agreed);
     room = room;
     size = size;
   }

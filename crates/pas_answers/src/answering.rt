@@ -109,6 +109,7 @@ fn free<D: Desk>(
 /// Gives a block another size, under a new name: what that name stands for from then on, and what is said where the block is kept or the request refused.
 /// It stays out of line, since few operations come here, and all others would be longer with it.
 #[inline(never)]
+#[tactic(auto, using(crate::proofs::Requests::kept, crate::proofs::SingleActs::none_stands))]
 fn resize<D: Desk, O: Door, M: Remake>(
     desk: &mut D,
     door: &mut O,

@@ -23,6 +23,7 @@ fn suits(old: Block, size: u32, align: u32) -> bool
 ///
 /// Whether the old block lives isn't asked: its flush refuses a wrong name by its true reason. There is room for the request, as `serve` says, and for 64
 /// events more where 64 names are logged.
+#[tactic(auto, using(crate::proofs::Requests::serves, crate::proofs::Requests::can_serve, crate::proofs::Requests::no_fault))]
 pub fn reallocate<D: Desk, O: Door>(
     cache: &mut ThreadCache,
     desk: &mut D,

@@ -1,5 +1,5 @@
-use Rattle.std.proofs.Common.{◌++◌, ◌∙◌, refl, ap, sym, subst, arith}
-use Rattle.pas_acts.proofs.{Common.{IsValid, known_in, requests_in}, Working.{may_serve, no_chore, its_own, room_now, operated}}
+use Rattle.std.proofs.Common.{◌∙◌, sym, subst, arith}
+use Rattle.pas_acts.proofs.{Common.{IsValid, known_in}, Working.{may_serve, no_chore, its_own, room_now, operated}}
 use Rattle.pas_answers.proofs.SingleActs.{may_pack, own_what, freed_task, named_task}
 use Rattle.pas_acts.proofs.own.operate.Goals as goal
 
@@ -29,11 +29,7 @@ returns-in-Own-clause-works g c f k next later more p at =
     let is = own_what op.what c.in-Own.task (sym c.work.ensures ∙ c.in-Own.is) in
     let may = may_serve op is at (c.freed-meant.ensures ∙ freed_task (known_in c.args.book.now c.args.requests.now) c.in-Own.task) in
     let did = c.serve-came.ensures.serves f k op next _ more p is may in
-    operated op is at did.0 (record {
-      book = refl;
-      requests = c.keep.ensures.kept ∙ ap (λ ns. requests_in c.args.requests.now ++ ns) (named_task c.in-Own.task c.serve-came.result);
-      room = c.keep.ensures.room;
-    }) did.1
+    operated op is at did.0 (search (arith, named_task)) did.1
 
 pub returns-in_default-clause-works : goal.returns-in_default-clause-works
 returns-in_default-clause-works g c = search (arith, no_chore)

@@ -2,10 +2,6 @@ use Rattle.std.proofs.Common.{sym, ◌∙◌, arith}
 use Rattle.pas_acts.proofs.Making.{next_room, left_room}
 use Rattle.pas_acts.proofs.parts.rooms_of.Goals as goal
 
--- there are no rooms yet
-pub loop-actor-init : goal.loop-actor-init
-loop-actor-init c = search arith
-
 pub unreachable-requires : goal.unreachable-requires
 unreachable-requires c =
     let left = c.requires.left c.loop-actor.actor (omega (arith, c.loop-actor-test.true)) in
@@ -22,11 +18,3 @@ loop-actor-preserved c =
       threads = c.event_room.ensures.threads ∙ i.threads;
       reserved = omega (arith, i.reserved, c.push_reserved.ensures.capacity);
     }
-
--- at the loop's end all rooms are made
-pub returns-clause-rooms : goal.returns-clause-rooms
-returns-clause-rooms c =
-    search arith
-
-pub returns-clause-outcomes : goal.returns-clause-outcomes
-returns-clause-outcomes c = c.loop-actor.invariant.outcomes

@@ -1,6 +1,6 @@
-use Rattle.std.proofs.Common.{refl, ◌≡◌, ◌+◌, ap, arith}
-use Rattle.pas_answers.proofs.{Common.{can_call, adds_none, cost_of_size, what_of, cost_of_what, Task, cached}, Requests.{guarded_performs, can_log, fits_task}}
-use Rattle.pas_answers.proofs.Requests.{performs_free, performs_skip, performs_raw, performs_flush, performs_stop, performs_no_move}
+use Rattle.std.proofs.Common.{refl, ◌≡◌, arith}
+use Rattle.pas_answers.proofs.{Common.{can_call, adds_none, Task, cached}, Requests.{can_log, fits_task, performs_free, performs_skip, performs_raw}}
+use Rattle.pas_answers.proofs.Requests.{performs_flush, performs_stop, performs_no_move}
 use Rattle.pas_answers.proofs.answering.perform.Goals as goal
 
 pub free-requires-clause-turn : goal.free-requires-clause-turn
@@ -29,13 +29,14 @@ pub allocate-requires-in-Guarded-clause-admitted : goal.allocate-requires-in-Gua
 allocate-requires-in-Guarded-clause-admitted g c = search (arith, fits_task)
 
 pub allocate-requires-in-Guarded-clause-can : goal.allocate-requires-in-Guarded-clause-can
-allocate-requires-in-Guarded-clause-can g c = can_call adds_none c.requires.can (λ v l stood met.
-    let cost : cost_of_what (what_of c.args.task) ≡ cost_of_size c.in-Guarded.size + 2 = ap (λ (t : Task). cost_of_what (what_of t)) c.in-Guarded.is in
-    record { rest = met.rest; room = omega (arith, met.room, cost) })
+allocate-requires-in-Guarded-clause-can g c = search (arith, can_call, adds_none)
 
+-- what answers the request answers it, and it costs more
 pub returns-in-Guarded-clause-performs : goal.returns-in-Guarded-clause-performs
-returns-in-Guarded-clause-performs g c = rw c.in-Guarded.is (guarded_performs (g.O.Door.answers c.args.door.now c.allocate-in-Guarded.new.door)
-    (c.allocate-in-Guarded.new.door ≡ c.args.door.now) c.in-Guarded.keeper (c.allocate-in-Guarded.ensures.performs c.args.meant))
+returns-in-Guarded-clause-performs g c =
+    let is = c.allocate-in-Guarded.ensures.performs c.args.meant in
+    let did = is.0 in
+    rw c.in-Guarded.is (search arith, is.1)
 
 -- no other task asks the door
 pub returns-in-Some-clause-performs : goal.returns-in-Some-clause-performs
@@ -65,11 +66,9 @@ resize-requires-clause-admitted g c =
 pub resize-requires-clause-stands : goal.resize-requires-clause-stands
 resize-requires-clause-stands g c = c.requires.stands c.in-Some-meant.block c.in-Some-meant.is
 
+-- whatever the old name, it costs the same
 pub resize-requires-clause-can : goal.resize-requires-clause-can
-resize-requires-clause-can g c = λ n heap.
-    let cost : cost_of_what (what_of c.args.task) ≡ cost_of_size c.in-Remake.size + 1 = ap (λ (t : Task). cost_of_what (what_of t)) c.in-Remake.is in
-    let can = c.requires.can in
-    record { view = can.view; whole = can.whole; stood = can.stood; met = record { rest = can.met.rest; room = omega (arith, can.met.room, cost) } }
+resize-requires-clause-can g c = search arith
 
 pub returns-in-Some-meant-clause-performs : goal.returns-in-Some-meant-clause-performs
 returns-in-Some-meant-clause-performs g c = rw (c.in-Remake.is, c.in-Some-meant.is) (c.resize.ensures.performs _ _)

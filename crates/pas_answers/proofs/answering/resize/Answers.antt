@@ -1,15 +1,9 @@
-use Rattle.std.proofs.Common.{arith, Ok, ◌≡◌, ◌∙◌, ap, subst}
-use Rattle.pas_answers.proofs.{Common.{same_Some, cached, IsBlockOf}, SingleActs.none_stands, Requests.{can_move, kept, replaced, refused, new_stands}}
+use Rattle.std.proofs.Common.{Ok, ◌≡◌, ◌∙◌, ap}
+use Rattle.pas_answers.proofs.{Common.cached, Requests.{can_move, replaced, refused, new_stands}}
 use Rattle.pas_answers.proofs.answering.resize.Goals as goal
 
 pub remake-requires-clause-can : goal.remake-requires-clause-can
 remake-requires-clause-can g c = can_move (cached c.args.cache.now) c.args.name 0 0 c.args.size c.args.align (g.D.Desk.spare_of c.args.desk.now) c.args.old.heap (c.requires.can 0 0)
-
-pub returns-in-Ok-Kept-clause-performs : goal.returns-in-Ok-Kept-clause-performs
-returns-in-Ok-Kept-clause-performs g c = search (arith, kept)
-
-pub returns-in-Ok-Kept-clause-stands : goal.returns-in-Ok-Kept-clause-stands
-returns-in-Ok-Kept-clause-stands g c = λ block is. subst (IsBlockOf (g.D.Desk.standing c.args.desk.now).seat.profile) (same_Some _ _ is) c.requires.stands
 
 pub returns-in-Ok-New-clause-performs : goal.returns-in-Ok-New-clause-performs
 returns-in-Ok-New-clause-performs g c = λ n heap.
@@ -26,6 +20,3 @@ pub returns-in-Err-clause-performs : goal.returns-in-Err-clause-performs
 returns-in-Err-clause-performs g c = λ n heap.
     refused (g.D.Desk.standing c.args.desk.now) (g.D.Desk.standing c.remake.new.desk) (cached c.args.cache.now) (cached c.remake.new.cache) c.args.name n heap c.args.size c.args.align c.args.old (g.O.Door.answers c.args.door.now c.remake.new.door) (c.remake.new.door ≡ c.args.door.now)
     c.in-Err.room c.refusal.result c.refusal.ensures c.requires.stands.heap c.in-Err.ensures.moves
-
-pub returns-in-Err-clause-stands : goal.returns-in-Err-clause-stands
-returns-in-Err-clause-stands g c = none_stands (g.D.Desk.standing c.args.desk.now).seat.profile

@@ -1,12 +1,6 @@
-use Rattle.std.proofs.Common.{arith, sym, ◌∙◌}
-use Rattle.pas_answers.proofs.{Common.{call_none, cached}, Requests.{serves, can_serve, leaves_block, room_to_free, can_free, no_fault, gives_other}}
+use Rattle.std.proofs.Common.{sym, ◌∙◌}
+use Rattle.pas_answers.proofs.{Common.cached, Requests.{serves, leaves_block, room_to_free, can_free, gives_other}}
 use Rattle.pas_answers.proofs.moving.reallocate.Goals as goal
-
-pub returns-then-suits-clause-moves : goal.returns-then-suits-clause-moves
-returns-then-suits-clause-moves g c = search (arith, call_none)
-
-pub serve-requires-clause-can : goal.serve-requires-clause-can
-serve-requires-clause-can g c = can_serve (cached c.args.cache.now) c.args.old.heap c.args.size c.args.align (g.D.Desk.spare_of c.args.desk.now) c.requires.can
 
 pub returns-in-Err-clause-moves : goal.returns-in-Err-clause-moves
 returns-in-Err-clause-moves g c = let r = c.in-Err.ensures.allocates in let s = serves (cached c.args.cache.now) (cached c.serve.new.self) c.args.old.heap c.args.size c.args.align r in leaves_block _ _ _ r.found c.args.old c.args.size c.args.align (cached c.args.cache.now) (cached c.serve.new.self) c.in-Err.room (sym c.suits.ensures ∙ c.if-suits.false) r.named s
@@ -17,9 +11,6 @@ free-requires-clause-room g c = room_to_free c.args.old.heap c.args.size c.args.
 pub free-requires-clause-can : goal.free-requires-clause-can
 free-requires-clause-can g c = can_free c.args.old.heap c.args.size c.args.align (g.D.Desk.spare_of c.args.desk.now) (cached c.args.cache.now)
     (cached c.serve.new.self) c.in-Ok.block c.in-Ok.ensures.allocates c.requires.can
-
-pub unreachable-requires : goal.unreachable-requires
-unreachable-requires g c = search (arith, serves, no_fault)
 
 pub returns-in-Ok-free-clause-moves : goal.returns-in-Ok-free-clause-moves
 returns-in-Ok-free-clause-moves g c = let r = c.in-Ok.ensures.allocates in let s = serves (cached c.args.cache.now) (cached c.serve.new.self) c.args.old.heap c.args.size c.args.align r in gives_other _ _ _ r.found c.args.old c.args.size c.args.align (cached c.args.cache.now) (cached c.serve.new.self) (cached c.free.new.self) c.in-Ok.block (sym c.suits.ensures ∙ c.if-suits.false) r.named s c.in-Ok-free.ensures.frees

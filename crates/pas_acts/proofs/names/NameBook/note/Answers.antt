@@ -1,5 +1,5 @@
-use Rattle.std.proofs.Common.{ℕ, ◌<◌, get_or, length, refl, ap, sym, ◌∙◌, subst, arith, List, take_all}
-use Rattle.pas_acts.proofs.{Common.{Op, Alloc, names_held, Names, ArePlaced}, Noting.{asks_same, asks_below, below_at, placed_next, counted, count_small}}
+use Rattle.std.proofs.Common.{◌<◌, get_or, refl, sym, ◌∙◌, subst, arith, take_all}
+use Rattle.pas_acts.proofs.{Common.{Op, Alloc, names_held, Names}, Noting.{asks_same, asks_below, below_at, placed_next, counted, count_small}}
 use Rattle.pas_acts.proofs.names.NameBook.note.Goals.{in-Some, in-None}
 use Rattle.pas_acts.proofs.names.NameBook.note.Goals as goal
 
@@ -31,11 +31,7 @@ loop-op-preserved c = elim c.match-asked_name.branch [
         counts = λ k. w.add-place.ensures.one k
             ∙ counted c.args.ops.now c.loop-op.op-index past w.in-Some.name k w.add-place.result _ c.loop-op-test.true w.in-Some.ensures here (c.loop-op.invariant.counts k);
       })
-  | in-None w ↦ rw (w.self-is, w.counts-is) (record {
-    names = c.loop-op.invariant.names;
-    placed = λ k. subst (λ (ns : List ℕ). ArePlaced c.loop-op.self 0 ns) (sym (asks_same k c.args.ops.now c.loop-op.op-index past c.loop-op-test.true w.in-None.ensures)) (c.loop-op.invariant.placed k);
-    counts = λ k. c.loop-op.invariant.counts k ∙ ap (λ (ns : List ℕ). length ns) (sym (asks_same k c.args.ops.now c.loop-op.op-index past c.loop-op-test.true w.in-None.ensures));
-  })
+  | in-None w ↦ search (arith, asks_same)
 ]
 
 pub returns-clause-placed : goal.returns-clause-placed
