@@ -1,65 +1,67 @@
 -- What each actor's turn needs and leaves: instances of the turn. What a door to plain indexes tells is said as the definition of a replay says it.
 use Rattle.std.proofs.Common.{arith, ◌≡◌, ℕ, List, [], ◌∷◌, ◌++◌, length, drop, take, Option, ap, sym, ◌∙◌, subst, refl, length-set, take_at, ◌-◌, ◌≤◌, ◌==◌}
-use Rattle.std.proofs.Common.{Bool, true, false, if◌then◌else◌, set, get_or, eq-eqb, append-nil, ◌≢◌, zero, suc, ◌+◌, ◌<◌, nat_le, Some, None, length-append}
+use Rattle.std.proofs.Common.{Bool, true, false, if◌then◌else◌, set, get_or, eq-eqb, append-nil, ◌≢◌, zero, suc, ◌+◌, ◌<◌, Some, None, length-append}
 use Rattle.pas_replay.proofs.Common.{cases_eq, lt-leb, Indexes, no_ranges, Profile, Guard, Op, What, Task, Work, Operates, Settles, acts_of_op, acts_of_work}
-use Rattle.pas_replay.proofs.Common.{Act, Guards, Lowers, work_of, keeper_of, cost_of_size, unlined, cached, Cached, ThreadCache, RestsAt, Moves, tries_of}
-use Rattle.pas_replay.proofs.Common.{AreKeptFor, Sits, here, and_for, ThreadActs, sits_for, Named, Progress, Caches, after_settling, Reaches, block_named}
-use Rattle.pas_replay.proofs.Common.{names_held, at_start, owed_by_keeper, AreAtRest, AllAreNamedBy, with_noted, indexes_after_all, MayStand, what_of, AreFit}
-use Rattle.pas_replay.proofs.Common.{cost_of_act, AreOfThreads, kept_costs_of, Names, EachShown, acts_shown, Hand, IsTaken, TakesSeat, Replay, Left, HasNames}
-use Rattle.pas_replay.proofs.Common.{IsAt, SoFar, upon, pass_in, Slots, rests_as, rests, owes, own_events, ActorStands, owed_of, owed_by, AreCaches, GoesBy}
-use Rattle.pas_replay.proofs.Common.{standing_of, PlainDesk, PlainPass, Legal, part, unknown_pages, View, FitsBook, guards_in, size_of_book, GuardBook}
-use Rattle.pas_replay.proofs.{Common.{records_in, room_of, Records, Record}, Turning.{somewhere, there_is, rest_one, rest_two, hand, still_named, AsksNoIndex}}
-use Rattle.pas_replay.proofs.Turning.{thread_now, later_for, thread_turn, all_rest, rest_first, goes_both, OthersKept, set_caches, book_is, place_is, set_books}
-use Rattle.pas_replay.proofs.Turning.{set_places, still_places, owed_moves, owed_at, keeper_owes, SitsAs, MovesAs, sits_now, turn, kept_by_moves, either_less}
-use Rattle.pas_replay.{proofs.Turning.{less_events, less_tries, said_more}, specs.{Operating.ActsByIndexes, Sessions.{HasNamed, own_acts_of}}}
-use Rattle.pas_answers.specs.{Fit.{own_cost_of_act, cost_of_what, kept_cost_of}, Answers.settled, Reaching.{AnswersTried, AnswersGuarded}, Keeping.cost_of_try}
-use Rattle.pas_answers.specs.{Indexes.{IsNamedFor, IsNamedBy, after_operation, after_tried, after_guarded, TriedIsNamedBy, GuardedIsNamedBy}, Calls.Tells}
-use Rattle.pas_answers.specs.{Calls.{AllMayStand, IsMeant, named_by, freed_by, AreKnown, named_with}, Guarding.{Tried, IsTried, after_trying, after_giving}}
-use Rattle.pas_answers.proofs.{SingleActs.{meant_by, meant_stands, known_more, if_same, known_if, its_cache, other_cache, named_task}, Consequences.tried_shown}
-use Rattle.pas_large.specs.{Spans.added, Doors.{found_in, cut_in, added_in}}
+use Rattle.pas_replay.proofs.Common.{Act, Lowers, work_of, cost_of_size, unlined, cached, Cached, ThreadCache, RestsAt, Moves, tries_of, AreKeptFor, Sits, here}
+use Rattle.pas_replay.proofs.Common.{and_for, ThreadActs, sits_for, Progress, Caches, after_settling, Reaches, block_named, names_held, at_start}
+use Rattle.pas_replay.proofs.Common.{owed_by_keeper, AreAtRest, AllAreNamedBy, with_noted, indexes_after_all, MayStand, what_of, AreFit, cost_of_act}
+use Rattle.pas_replay.proofs.Common.{AreOfThreads, Names, EachShown, acts_shown, Hand, IsTaken, TakesSeat, Replay, Left, HasNames, IsAt, SoFar, upon, pass_in}
+use Rattle.pas_replay.proofs.Common.{rests_as, rests, owes, own_events, ActorStands, owed_of, owed_by, AreCaches, GoesBy, standing_of, PlainDesk, PlainPass}
+use Rattle.pas_replay.proofs.Common.{Legal, part, unknown_pages, View, FitsBook, guards_in, GuardBook, records_in, room_of, Record, HaveBooks, HavePlaces}
+use Rattle.pas_replay.proofs.Turning.{somewhere, at_place, rest_one, rest_two, hand, still_named, AsksNoIndex, thread_now, later_for, thread_turn, all_rest}
+use Rattle.pas_replay.proofs.Turning.{rest_first, goes_both, OthersKept, set_at_place, still_places, owed_moves, owed_at, keeper_owes, sits_now, turn}
+use Rattle.pas_replay.{proofs.Turning.{kept_by_moves, either_less, less_events, less_tries, said_more}, specs.{Operating.ActsByIndexes, Sessions.HasNamed}}
+use Rattle.pas_replay.specs.Sessions.{own_acts_of}
+use Rattle.pas_trace.specs.{Acts.Guards, declared.item.Request.Request, Asked.{request_in, request_of}, EveryPlan.asked_after}
+use Rattle.pas_answers.specs.{Answers.{Named, settled}, Fit.{kept_costs_of, own_cost_of_act, cost_of_what, kept_cost_of}, Reaching.AnswersTried}
+use Rattle.pas_answers.specs.{Reaching.AnswersGuarded, Keeping.cost_of_try, Indexes.{IsNamedFor, IsNamedBy, after_operation, after_tried, after_guarded}}
+use Rattle.pas_answers.specs.{Indexes.{TriedIsNamedBy, GuardedIsNamedBy}, Calls.{Tells, AllMayStand, IsMeant, named_by, freed_by, AreKnown, named_with}}
+use Rattle.pas_answers.{specs.Guarding.{Tried, IsTried, after_trying, after_giving}, proofs.SingleActs.{meant_by, meant_stands, known_more, if_same, known_if}}
+use Rattle.pas_answers.proofs.{SingleActs.{its_cache, other_cache, named_task}, Consequences.tried_shown}
+use Rattle.pas_large.specs.{declared.plain_door.PlainDoor.PlainDoor, Spans.added, Doors.{found_in, cut_in, added_in}}
+use Rattle.pas_guard.specs.Books.{size_of_book}
 use Rattle.pas_profile.specs.declared.{event.Range.Range, name.Block.Block}
 use Rattle.pas_free_log.specs.declared.noting.EndedRun.{EndedRun}
-use Rattle.pas_trace.specs.{declared.item.Request.Request, Acts.act_kept, Asked.{request_in, request_of}, EveryPlan.asked_after}
 use Rattle.pas_cache.specs.Calls.{SettlesEach}
 use Rattle.pas_acts.specs.{AtDesks.{GoesThrough, MayOperate}, Keepers.{keeper_has, LaterKept, and_try, KeeperAt, KeeperTries, KeeperLowers}}
 use Rattle.pas_acts.proofs.AtDesk.{rests_for, settled_rest, other_book}
 
--- doors of which each is to one vector of indexes
-module _ {Door : Type 0} (Kept : Door → Door → Type 0) (held : Door → Indexes) where
-  abbrev pub Answers : Door → Door → ℕ → ℕ → Option ℕ → Type 0
-  Answers before after heap n found = Kept before after × (found ≡ found_in (held before) heap n) × (held after ≡ cut_in (held before) heap n)
+-- ---- doors to one vector of indexes, and what that holds
+abbrev pub Kept : PlainDoor → PlainDoor → Type 0
+Kept before after = after.indexes.ghost_name ≡ before.indexes.ghost_name
 
-  abbrev pub HandsOn : Door → Door → ℕ → Range → Type 0
-  HandsOn before after heap range = Kept before after × (held after ≡ added_in (held before) heap range)
+abbrev pub held : PlainDoor → Indexes
+held door = door.indexes.now
 
-  -- what it came to
-  record Asked (f : Profile) (request : Option Request) (found : Option ℕ) (before after : Door) : Type 0 where
-    pub kept : Kept before after
-    pub named : IsNamedBy f (held before) request found
-    pub left : held after ≡ after_operation f request (held before)
+abbrev pub Answers : PlainDoor → PlainDoor → ℕ → ℕ → Option ℕ → Type 0
+Answers before after heap n found = Kept before after × (found ≡ found_in (held before) heap n) × (held after ≡ cut_in (held before) heap n)
 
-  module _ (still : (d : Door) → Kept d d) where
-    kept_same : (before after : Door) → after ≡ before → Kept before after
-    kept_same before after same = subst (Kept before) (sym same) (still before)
+abbrev pub HandsOn : PlainDoor → PlainDoor → ℕ → Range → Type 0
+HandsOn before after heap range = Kept before after × (held after ≡ added_in (held before) heap range)
 
-    asked_for : (f : Profile) (request : Option Request) (found : Option ℕ) (before after : Door)
-        → IsNamedFor f (Answers before after) (after ≡ before) request found → Asked f request found before after
-    asked_for f request found before after h = grind (arith, kept_same)
+-- what it came to
+record Asked (f : Profile) (request : Option Request) (found : Option ℕ) (before after : PlainDoor) : Type 0 where
+  pub kept : Kept before after
+  pub named : IsNamedBy f (held before) request found
+  pub left : held after ≡ after_operation f request (held before)
 
-    -- Runs that a door was handed one by one are added to its indexes, in order.
-    pub handed : (together : (a b c : Door) → Kept a b → Kept b c → Kept a c) (runs : List EndedRun) (before after : Door)
-        → SettlesEach HandsOn runs before after → Kept before after × (held after ≡ with_noted (held before) runs)
-    handed together [] before after same = (kept_same before after same, ap held same)
-    handed together (run ∷ runs) before after (next, one, rest) =
-        let rest = handed together runs next after rest in grind (arith, rest)
+asked_for : (f : Profile) (request : Option Request) (found : Option ℕ) (before after : PlainDoor)
+    → IsNamedFor f (Answers before after) (after ≡ before) request found → Asked f request found before after
+asked_for f request found before after h = grind arith
 
-    -- the acts of an operation by such a door are acts by what it holds
-    pub went_through : (together : (a b c : Door) → Kept a b → Kept b c → Kept a c) (f : Profile) (op : Op) (p q : Progress)
-        (is : Reaches f (Operates op ∷ (Settles op.actor ∷ [])) p q) (before after : Door)
-        → GoesThrough Answers HandsOn f op p q is before after
-        → AllAreNamedBy f (held before) (Operates op ∷ (Settles op.actor ∷ [])) p q is × Kept before after
-        × (held after ≡ indexes_after_all f (Operates op ∷ (Settles op.actor ∷ [])) p q is (held before))
-    went_through together f op p q is before after so = search (arith, asked_for, handed)
+-- Runs that a door was handed one by one are added to its indexes, in order.
+pub handed : (runs : List EndedRun) (before after : PlainDoor) → SettlesEach HandsOn runs before after
+    → Kept before after × (held after ≡ with_noted (held before) runs)
+handed [] before after same = (ap (λ (door : PlainDoor). door.indexes.ghost_name) same, ap held same)
+handed (run ∷ runs) before after (next, one, rest) =
+    let rest = handed runs next after rest in grind (arith, rest)
+
+-- the acts of an operation by such a door are acts by what it holds
+pub went_through : (f : Profile) (op : Op) (p q : Progress) (is : Reaches f (Operates op ∷ (Settles op.actor ∷ [])) p q) (before after : PlainDoor)
+    → GoesThrough Answers HandsOn f op p q is before after
+    → AllAreNamedBy f (held before) (Operates op ∷ (Settles op.actor ∷ [])) p q is × Kept before after
+    × (held after ≡ indexes_after_all f (Operates op ∷ (Settles op.actor ∷ [])) p q is (held before))
+went_through f op p q is before after so = search (arith, asked_for, handed)
 
 -- ---- how many indexes there are
 noted_many : (runs : List EndedRun) (indexes : Indexes) → length (with_noted indexes runs) ≡ length indexes
@@ -92,7 +94,7 @@ pub rests_now : {r : Replay} {act desk desk1 passes passes1 caches books places 
     → IsAt r (upon r (act ∷ []) more) (hand desk passes caches books places indexes table out) p
     → RestsAt r.profile k (standing_of desk1) (cached there) out (later_for r k p more extra) p
 rests_now {caches = caches} {p = p} {k} {extra} {there} more some within own cost seat is at = rests_for (thread_now k 0 extra more some within seat
-    (there_is p.caches caches k there some within at.caches_are is) (omega (arith, own)) (omega (arith, cost)) at) (omega arith) (omega arith)
+    (at_place (λ j c. p.caches j ≡ cached c) caches k there some within is at.caches_are) (omega (arith, own)) (omega (arith, cost)) at) (omega arith) (omega arith)
 
 -- An act that a thread did at its seat takes the replay on, with all others standing as before.
 pub act_turn : {r : Replay} {more : Left} {act desk desk1 desk2 passes passes1 caches books places indexes table out out1 out2 p told extra k there : _}
@@ -107,7 +109,7 @@ pub act_turn : {r : Replay} {more : Left} {act desk desk1 desk2 passes passes1 c
     → IsTaken desk2 passes1 × IsAt r more (hand desk2 passes1 (set caches (k - 1) cache) books places indexes table out2) did.reached
 act_turn {r} {more} {act} {caches = caches} {indexes = indexes} {table} {p = p} {k = k} {there} cache some within fit asks seat is at did few added room =
     let asked = asks indexes p did.reaches.0 did.reaches.1 in
-    thread_turn k cache some within seat (there_is p.caches caches k there some within at.caches_are is) at did (asked.1, tt) (sym asked.0) (rest_one r.threads r.profile act p did.reached did.reaches)
+    thread_turn k cache some within seat (at_place (λ j c. p.caches j ≡ cached c) caches k there some within is at.caches_are) at did (asked.1, tt) (sym asked.0) (rest_one r.threads r.profile act p did.reached did.reaches)
     (still_named fit did.names at.names) at.operate.1 at.keep.1 few added room
 
 -- what a name stands for once another or itself was set
@@ -127,7 +129,7 @@ may_operate {r} {op} {desk1 = desk1} {caches = caches} {table = table} {out} {p}
     let meaning = means ∙ ap (λ (w : What). freed_by (block_named table) w) (sym asks) in
     record {
       rests = subst (λ (j : ℕ). RestsAt r.profile j (standing_of desk1) (cached there) out (and_for (cost_of_what op.what) (later_for r j p more 0)) p) (sym mine)
-          (thread_now k (cost_of_what op.what) 0 more some within seat (there_is p.caches caches k there some within at.caches_are is) (omega (arith, cost)) (omega arith) at);
+          (thread_now k (cost_of_what op.what) 0 more some within seat (at_place (λ j c. p.caches j ≡ cached c) caches k there some within is at.caches_are) (omega (arith, cost)) (omega arith) at);
       limit = names_held table;
       asked = at.names.asked;
       fit = at.names.fit.1;
@@ -156,7 +158,7 @@ operate_turn {r} {more} {op} {desk1 = desk1} {desk2} {caches = caches} {indexes 
     let all = subst (λ (j : ℕ). ActsByIndexes r.profile j op indexes indexes' (named_by op.what came) (here (standing_of desk1) (cached there) out)
     (here (standing_of desk2) (cached cache) out') (later_for r j p more 0) p) mine acted in
     let did = all.did in
-    somewhere (thread_turn k cache some within seat (there_is p.caches caches k there some within at.caches_are is) at did all.named all.left (rest_two r.threads r.profile op p did.reached did.reaches)
+    somewhere (thread_turn k cache some within seat (at_place (λ j c. p.caches j ≡ cached c) caches k there some within is at.caches_are) at did all.named all.left (rest_two r.threads r.profile op p did.reached did.reaches)
     (subst (λ (ns : List Named). HasNames r.profile more.acts table' ns) (sym did.names) record {
       asked = asked_after op.what names.asked;
       fit = subst (λ (limit : ℕ). AreFit r.profile limit (asked_after op.what names.asked) more.acts) (sym named.held) names.fit.2;
@@ -171,11 +173,6 @@ operate_turn {r} {more} {op} {desk1 = desk1} {desk2} {caches = caches} {indexes 
 pub acts_by_work : (idle : List ℕ) (op said : Op) {work work' : Work} → unlined op ≡ unlined said → work ≡ work_of said.what → work ≡ work'
     → acts_of_op idle op ≡ acts_of_work idle op work'
 acts_by_work idle op said same asks is = ap (λ (w : Work). acts_of_work idle op w) (ap (λ (o : Op). work_of o.what) same ∙ sym asks ∙ is)
-
--- whose they are
-pub own_actor : (task : Task) (op : Op) {r : Replay} (more : Left) {h : Hand} → SoFar r (upon r (own_acts_of task op) more) h
-    → (1 ≤ op.actor) × (op.actor ≤ r.threads)
-own_actor task op more i = grind arith
 
 -- The turn of a keeper, and what is left of a guarded request after it.
 
@@ -193,8 +190,8 @@ and_kept events records guards later = record { events = events + later.events; 
 
 -- ---- the keeper of the thread at place i sits at the desk
 -- where the acts cost it so much, and all records so many, and it tries so many requests among them
-keeper_now : {r : Replay} {left : Left} {desk0 desk : PlainDesk} {passes0 passes : Slots} {caches : List ThreadCache} {books : List GuardBook} {places : ℕ}
-    {indexes : Indexes} {table : Names} {out : Records} {p : Progress} (k i : ℕ) (there : GuardBook) (events records guards : ℕ) (more : Left)
+keeper_now : {r : Replay} {left : Left} {desk0 desk passes0 passes caches books places indexes table out p : _} (k i : ℕ) (there : GuardBook)
+    (events records guards : ℕ) (more : Left)
     → k ≡ r.threads + i → 1 ≤ i → i ≤ length books → TakesSeat desk0 desk passes0 passes k → there ≡ get_or books (i - 1) there
     → kept_costs_of k left.acts ≡ events + kept_costs_of k more.acts → left.room ≡ records + more.room
     → tries_of k left.acts ≡ guards + tries_of k more.acts
@@ -207,11 +204,11 @@ keeper_now {r} {left} {desk0} {desk} {passes0} {passes} {caches} {books} {places
     let v = part k p.list in
     let within : k ≤ r.threads + r.keepers = omega (arith, place, most, at.kept) in
     let past : r.threads < k = omega (arith, place, some) in
-    let sits = subst (λ (kind : Bool). SitsAs kind r k desk left.acts p) (lt-leb k r.threads past) (sits_now k within seat at) in
-    let book : p.books k ≡ guards_in there = ap p.books place ∙ book_is r.threads p.books books i there some most at.books_are is in
+    let sits = rw (lt-leb k r.threads past) at (sits_now k within seat at) in
+    let book : p.books k ≡ guards_in there = ap p.books place ∙ at_place (λ j b. p.books (r.threads + j) ≡ guards_in b) books i there some most is at.books_are in
     let least = owed_at r.threads f p k (r.threads + r.keepers) (omega (arith, past)) within in
     let mine = keeper_owes r.threads f p k past ∙ ap (λ (gs : List Guard). owed_by_keeper f gs v) book in
-    let room = place_is r.threads books left.acts i there some most at.books_have is in
+    let room = at_place (λ j b. length (guards_in b) + tries_of (r.threads + j) left.acts ≤ size_of_book b) books i there some most is at.books_have in
     let tries = ap (λ (m : ℕ). tries_of m left.acts) place in
     -- its seat and its book are those; there is room for what it owes, within what all owe, and for what the acts ask
     search arith
@@ -251,7 +248,7 @@ module _ {r : Replay} {left more desk0 desk desk' passes0 passes caches books pl
 
   -- Its book is the one that it had.
   was : p.books k ≡ guards_in there
-  was = ap p.books place ∙ book_is r.threads p.books books i there some most at.books_are is
+  was = ap p.books place ∙ at_place (λ j b. p.books (r.threads + j) ≡ guards_in b) books i there some most is at.books_are
 
   kept_so : OthersKept k p q
   kept_so = kept_by_moves x.moves (λ j ne. ap (λ (cs : Caches). cs j) x.caches) x.books
@@ -268,15 +265,9 @@ module _ {r : Replay} {left more desk0 desk desk' passes0 passes caches books pl
   owed_least : owed_by_keeper r.profile (guards_in there) (part k p.list) ≤ owed_by r.threads r.profile p (r.threads + r.keepers)
   owed_least = search (arith, owed_at, past, within, keeper_was)
 
-  moves_so : MovesAs (nat_le k r.threads) r k desk desk' p q
-  moves_so = search (arith, lt-leb)
-
-  sits_so : SitsAs (nat_le k r.threads) r k desk' more q
-  sits_so = search (arith, lt-leb)
-
 -- the keeper had its turn, after which `more` acts are left
-keeper_turn : {r : Replay} {left more : Left} {desk0 desk desk' : PlainDesk} {passes0 passes : Slots} {caches : List ThreadCache} {books : List GuardBook}
-    {places : ℕ} {indexes indexes' : Indexes} {table table' : Names} {out out' : Records} {p q : Progress} (k i : ℕ) (there book : GuardBook)
+keeper_turn : {r : Replay} {left more : Left} {desk0 desk desk' passes0 passes caches books places indexes indexes' table table' out out' p q : _}
+    (k i : ℕ) (there book : GuardBook)
     → k ≡ r.threads + i → 1 ≤ i → i ≤ length books
     → TakesSeat desk0 desk passes0 passes k → there ≡ get_or books (i - 1) there → IsAt r left (hand desk0 passes0 caches books places indexes table out) p
     → KeeperTurned r k left.acts more.acts there book desk desk' p q
@@ -290,17 +281,23 @@ keeper_turn zero i there book place some most seat is at x shows reaches names o
 keeper_turn {r} {left} {more} {caches = caches} {books} {p = p} {q} (suc j) i there book place some most seat is at x shows reaches names operate keep written sized spare =
     let f = r.profile in
     let k = suc j in
+    let kind = lt-leb k r.threads (past k i there book place some most seat is at x) in
     let as_many = length-set books (i - 1) book ∙ at.kept in
     let their_caches = subst (λ (cs : Caches). AreCaches cs caches) (sym x.caches) at.caches_are in
     let its_book = ap q.books (sym place) ∙ x.book_is in
-    let their_books = set_books r.threads books i book some most its_book (λ m ne. x.books m (λ e. ne (e ∙ place))) at.books_are in
+    let their_books : HaveBooks r.threads q.books (set books (i - 1) book)
+    = set_at_place (λ m b. p.books (r.threads + m) ≡ guards_in b) (λ m b. q.books (r.threads + m) ≡ guards_in b) books i book some most its_book
+    (λ m b ne held. x.books (r.threads + m) (λ e. omega (arith, e, place, ne)) ∙ held) at.books_are in
     let its_place = subst (λ (m : ℕ). length (guards_in book) + tries_of m more.acts ≤ size_of_book book) place x.place in
-    let their_places = set_places r.threads books i book left.acts more.acts some most its_place x.tries at.books_have in
+    let their_places : HavePlaces r.threads (set books (i - 1) book) more.acts
+    = set_at_place (λ m b. length (guards_in b) + tries_of (r.threads + m) left.acts ≤ size_of_book b)
+    (λ m b. length (guards_in b) + tries_of (r.threads + m) more.acts ≤ size_of_book b) books i book some most its_place
+    (λ m b ne fit. omega (arith, fit, x.tries (r.threads + m))) at.books_have in
     turn k (within k i there book place some most seat is at x) seat at record {
       shows = shows;
       reaches = reaches;
-      moves = moves_so k i there book place some most seat is at x;
-      sits = sits_so k i there book place some most seat is at x;
+      moves = rw (kind, was k i there book place some most seat is at x, x.book_is) x.moves;
+      sits = rw (kind, x.book_is) x.sits;
       kept = kept_so k i there book place some most seat is at x;
       free = λ m ne. x.free m;
     } (assumption (as_many, their_caches, their_books, their_places, sized ∙ at.size))
@@ -314,7 +311,7 @@ pub lower_turn : {r : Replay} {more desk0 desk desk' passes0 passes caches books
 lower_turn {r} {more} {desk0} {desk} {desk'} {indexes = indexes} {table} {out} {out'} {p} k i there book place some most seat is at did =
     let f = r.profile in
     let q = did.reached in
-    let turned : KeeperTurned r k (Lowers k ∷ more.acts) more.acts there book desk desk' p q = search (arith, book_is, less_events, less_tries) in
+    let turned : KeeperTurned r k (Lowers k ∷ more.acts) more.acts there book desk desk' p q = search (arith, less_events, less_tries) in
     let then_owed = owed_then k i there book place some most seat is at turned in
     let least = owed_least k i there book place some most seat is at turned in
     keeper_turn k i there book place some most seat is at turned (acts_shown f (Lowers k ∷ []) p q did.reaches)
@@ -345,25 +342,16 @@ tried_first threads f keeper op request p next indexes indexes' more t block bef
     let all = subst (GuardedThen f keeper op p next indexes indexes') (sym asks) ((t, tried, one.0), one.1, one.2) in
     (((next, all.0, is), (all.1, subst (λ (ix : Indexes). AllAreNamedBy f ix more next s is) (sym all.2) named)), (before, rested))
 
--- what it costs is the same where its thread answers it
-thread_events : (threads : ℕ) (f : Profile) (keeper : ℕ) (op : Op) (more : List Act) (j : ℕ)
-    → own_events threads f j (Operates op ∷ more) ≤ own_events threads f j (Guards keeper op ∷ more)
-thread_events threads f keeper op more j = grind (arith, either_less)
-
 -- the acts of a guarded request are the try of its keeper, and what is left then
 pub guards_first : {r : Replay} {T : Type 0} {h : Hand} {task : Task} {k name heap size align : ℕ} (op : Op) (more : Left)
     → task ≡ Task.Guarded k name heap size align → T × SoFar r (upon r (own_acts_of task op) more) h
     → T × SoFar r (upon r (Guards k op ∷ []) (upon r (Settles op.actor ∷ []) more)) h
 guards_first {r} {T} {h} op more is so = subst (λ (t : Task). T × SoFar r (upon r (own_acts_of t op) more) h) is so
 
--- Of each kind of task that is left it computes.
-none_keeps : (task : Task) → ((k name heap size align : ℕ) → task ≡ Task.Guarded k name heap size align → ⊥) → keeper_of task ≡ None
-none_keeps task other = search arith
-
--- those of another operation are its thread's
+-- The acts of another operation are its thread's: of each kind of task that is left it computes.
 pub not_guarded : (op : Op) (task : Task) → ((k name heap size align : ℕ) → task ≡ Task.Guarded k name heap size align → ⊥)
     → own_acts_of task op ≡ Operates op ∷ (Settles op.actor ∷ [])
-not_guarded op task other = ap (λ (o : Option ℕ). act_kept o op ∷ (Settles op.actor ∷ [])) (none_keeps task other)
+not_guarded op task other = search arith
 
 -- Its keeper is the one of the keepers that has the thread's place.
 pub its_place : {r : Replay} {op : Op} {h : Hand} {p : Progress} (k i : ℕ) (more : Left) → op.actor ≡ i → IsAt r (upon r (Guards k op ∷ []) more) h p
@@ -402,16 +390,15 @@ module _ {r : Replay} {desk0 desk passes0 passes caches books places indexes tab
     left_turn none =
         let f = r.profile in
         let q = after_trying p k did.tried in
-        let place : k ≡ r.threads + i = there_so.0 in
-        let some : 1 ≤ i = there_so.1 in
-        let most : i ≤ length books = there_so.2 in
         let kept : (j : ℕ) → j ≢ k → q.books j ≡ p.books j = λ j ne. other_book p.books k j did.tried.guards ne in
         let fewer : (j : ℕ) → tries_of j (Operates op ∷ more.acts) ≤ tries_of j (Guards k op ∷ more.acts) = λ j. grind arith in
-        let turned : KeeperTurned r k (Guards k op ∷ more.acts) (Operates op ∷ more.acts) there book desk desk' p q = search (arith, thread_events, kept, fewer) in
-        let change = owed_then k i there book place some most seat is at turned in
+        let free : (j : ℕ) → own_events r.threads f j (Operates op ∷ more.acts) ≤ own_events r.threads f j (Guards k op ∷ more.acts)
+        = λ j. grind (arith, either_less) in
+        let turned : KeeperTurned r k (Guards k op ∷ more.acts) (Operates op ∷ more.acts) there book desk desk' p q = search (arith, free, kept, fewer) in
+        let change = owed_then k i there book there_so.0 there_so.1 there_so.2 seat is at turned in
         let cost = ap (λ (b : Option Block). cost_of_try size b) none in
         let longer = ap (λ (rs : List Record). length rs) did.pushed ∙ length-append (records_in out) did.tried.records in
-        keeper_turn k i there book place some most seat is at turned (tried_shown f k asked p did.tried did.is)
+        keeper_turn k i there book there_so.0 there_so.1 there_so.2 seat is at turned (tried_shown f k asked p did.tried did.is)
         (λ s rest. tried_first r.threads f k op asked p _ indexes _ more.acts did.tried None (all_rest at) did.is asked_is (did.block_is ∙ none)
         (rest.0.0.1, rest.0.1.0, refl) s ((rest.0.0.2, rest.0.1.1), rest.1.1))
         (still_named (λ limit asked fit. (fit.2, fit.3, fit.4)) refl at.names) at.operate (tt, at.keep.1)
@@ -456,15 +443,9 @@ module _ (threads : ℕ) (f : Profile) (p : Progress) (k : ℕ) where
   abbrev settling : Progress
   settling = after_settling p k
 
-  rests_then : (j : ℕ) (v : View) → rests threads f p j v → rests threads f settling j v
-  rests_then j v h = grind (arith, cases_eq, its_cache, settled_as, other_cache)
-
   -- what is the same of a settled cache is the same of each
   same_of : {A : Type 0} (of : ℕ → Cached → A) → ((c : Cached) (j : ℕ) → of j (settled c) ≡ of j c) → (j : ℕ) → of j (settling.caches j) ≡ of j (p.caches j)
   same_of of same j = search (arith, cases_eq, its_cache, other_cache)
-
-  owes_then : (j : ℕ) (v : View) → owes threads f settling j v ≡ owes threads f p j v
-  owes_then j v = grind (arith, same_of)
 
   owed_then_by : (n : ℕ) → owed_by threads f settling n ≡ owed_by threads f p n
   owed_then_by zero = refl
@@ -474,10 +455,12 @@ module _ (threads : ℕ) (f : Profile) (p : Progress) (k : ℕ) where
   stands_then : {j : ℕ} {slot : Option PlainPass} (more : List Act) → ActorStands threads f j p slot (Settles k ∷ more)
       → ActorStands threads f j settling slot more
   stands_then {j} more st =
-      let room = st.room in
-      let owed = owes_then j (part j p.list) in
+      let v = part j p.list in
+      let was = st.rest in
+      let rest : rests threads f settling j v = grind (arith, cases_eq, its_cache, settled_as, other_cache) in
+      let owed : owes threads f settling j v ≡ owes threads f p j v = grind (arith, same_of) in
       let free = less_events threads f (Settles k ∷ []) more j in
-      record { pass = st.pass; present = st.present; actor = st.actor; stands = st.stands; rest = rests_then j (part j p.list) st.rest; room = omega (arith, room, owed, free) }
+      record { pass = st.pass; present = st.present; actor = st.actor; stands = st.stands; rest = rest; room = omega (arith, st.room, owed, free) }
 
 -- What a thread's cache noted and hands on takes the replay on, with the runs added to the indexes.
 pub settle_turn : {r : Replay} {more : Left} {h : Hand} {p : Progress} (k : ℕ) (there cache : ThreadCache) → 1 ≤ k → k ≤ length h.caches
@@ -486,10 +469,12 @@ pub settle_turn : {r : Replay} {more : Left} {h : Hand} {p : Progress} (k : ℕ)
 settle_turn {r} {more} {h} {p} k there cache some most is now at =
     let f = r.profile in
     let q = after_settling p k in
-    let was = there_is p.caches h.caches k there some most at.caches_are is in
+    let was = at_place (λ j c. p.caches j ≡ cached c) h.caches k there some most is at.caches_are in
     let each : (j : ℕ) → j ≤ f.threads → ActorStands r.threads f j q (pass_in h.passes j) more.acts = λ j le. stands_then r.threads f p k _ (at.each j le) in
     let known : HasNames f more.acts h.table q.names = still_named (λ limit asked fit. fit) refl at.names in
-    let their = set_caches h.caches k cache some most (its_cache p.caches k (settled (p.caches k)) ∙ ap settled was ∙ sym now) (λ j ne. other_cache p.caches k j (settled (p.caches k)) ne) at.caches_are in
+    let its = its_cache p.caches k (settled (p.caches k)) ∙ ap settled was ∙ sym now in
+    let their : AreCaches q.caches (set h.caches (k - 1) cache) = set_at_place (λ j c. p.caches j ≡ cached c) _ h.caches k cache some most its
+    (λ j c ne held. other_cache p.caches k j (settled (p.caches k)) ne ∙ held) at.caches_are in
     let books = still_places r.threads h.books (Settles k ∷ more.acts) more.acts (less_tries (Settles k ∷ []) more.acts) at.books_have in
     let spare : length (records_in h.out) + (owed_by r.threads f q (r.threads + r.keepers) + more.room) ≤ room_of h.out = omega (arith, at.spare, owed_then_by r.threads f p k (r.threads + r.keepers)) in
     let answers : (s : Progress) → GoesBy r.threads f (with_noted h.indexes (cached there).noted) more.acts q s → GoesBy r.threads f (no_ranges f.heaps) r.acts at_start s

@@ -1,29 +1,28 @@
 -- The acts of a replay, one after the other, and what stands between two operations where records are handed on.
 use Rattle.std.proofs.Common.{◌≡◌, ℕ, ◌+◌, ◌-◌, ◌<◌, ◌≤◌, not, List, [], ◌∷◌, ◌++◌, map, length, drop, get_or, refl, ap, sym, ◌∙◌, subst, arith, Option, Bool}
-use Rattle.std.proofs.Common.{true, false, length-append, append_assoc, append-nil, None, Some, MatchOption, All, drop_at, zero, suc, ◌*◌, ◌/◌, nat_le}
-use Rattle.std.proofs.{Common.{if◌then◌else◌, inl, inr, slice_index, le-leb, reverse, slice_index_or, ◌==◌, ◌||◌}, lemmas.List.{drop_more, get_or-map}}
-use Rattle.std.proofs.lemmas.{List.Elements.All-drop, Nat.mul-le}
-use Rattle.pas_replay.proofs.Common.{length-map, cases_lt, lt-leb, same_Some, suc-mul, filter, Legal, Whole, part, unknown_pages, View, Profile, Guard, Op}
-use Rattle.pas_replay.proofs.Common.{Plan, Act, Wakes, Lowers, is_active, numbers_from, acts_of_op, acts_of_ops, phase_acts, MarksPhase, MarksClose, Ends}
-use Rattle.pas_replay.proofs.Common.{acts_of, IsPlanOf, bounds_of, unlined, without_lines, Progress, Advances, names_held, InOrder, AreFit, cost_of_act}
-use Rattle.pas_replay.proofs.Common.{costs_of, AreOfThreads, own_costs_of, kept_costs_of, at_start, phases_of, region_of, threads_of, keepers_of, acts_of_plan}
-use Rattle.pas_replay.proofs.Common.{Shows, Names, EachShown, sum_both, acts_shown, Indexes, no_ranges, pass_in, HasNames, ActorStands, Replay, Left, Hand}
-use Rattle.pas_replay.proofs.Common.{GoesBy, IsAt, SoFar, upon, Session, SoFarAt, owed_by, session, telling, SeatStands, rests_as, owes_as, records_owed_as}
-use Rattle.pas_replay.proofs.Common.{hand_of, dearest, left_between, Between, Begins, IsKitOf, replay_of, Actors, PlainPass, profile_of, RegionStands}
-use Rattle.pas_replay.proofs.Common.{PassStands, is_set, Mask4, awake_in, idle_in, plan_operate, plan_fit, FitsBook, is_outer, Cached, AtRest, records_in}
-use Rattle.pas_replay.proofs.{Common.{room_of, Records, Record}, Turning.{all_rest, still_places, owed_kept, op_costs, owed_most, AsksNoIndex, still_named}}
-use Rattle.pas_replay.{proofs.Turning.{less_events, less_tries, other_stands, said_more}, specs.{Sessions.{costs_and, AreEmpty, AreLowered}, Taking.FewWait}}
-use Rattle.pas_replay.specs.{Taking.{room_for_taker, room_between}, Kits.IsFresh, declared.kit.PlainKit.PlainKit}
+use Rattle.std.proofs.Common.{true, false, length-append, append_assoc, append-nil, None, Some, MatchOption, All, drop_at, zero, suc, ◌*◌, ◌/◌, nat_le, inl}
+use Rattle.std.proofs.{Common.{inr, slice_index, le-leb, slice_index_or, ◌==◌, ◌||◌}, lemmas.{List.{drop_more, get_or-map, Elements.All-drop}, Nat.mul-le}}
+use Rattle.pas_replay.proofs.Common.{length-map, cases_lt, lt-leb, same_Some, suc-mul, filter, Legal, Whole, part, View, Profile, Guard, Op, Plan, Act, Wakes}
+use Rattle.pas_replay.proofs.Common.{Lowers, is_active, numbers_from, acts_of_op, acts_of_ops, phase_acts, MarksPhase, MarksClose, Ends, acts_of, IsPlanOf}
+use Rattle.pas_replay.proofs.Common.{unlined, without_lines, Progress, Advances, names_held, InOrder, AreFit, cost_of_act, costs_of, AreOfThreads, at_start}
+use Rattle.pas_replay.proofs.Common.{phases_of, region_of, keepers_of, acts_of_plan, Shows, Names, EachShown, sum_both, acts_shown, Indexes, no_ranges, pass_in}
+use Rattle.pas_replay.proofs.Common.{HasNames, ActorStands, Replay, Left, Hand, GoesBy, IsAt, SoFar, upon, Session, SoFarAt, owed_by, session, telling}
+use Rattle.pas_replay.proofs.Common.{SeatStands, AreCaches, GuardBook, hand_of, dearest, left_between, Between, Begins, IsKitOf, replay_of, Actors, PlainPass}
+use Rattle.pas_replay.proofs.Common.{profile_of, RegionStands, PassStands, is_set, Mask4, awake_in, idle_in, plan_operate, plan_fit, FitsBook, is_outer, Cached}
+use Rattle.pas_replay.proofs.{Common.{records_in, room_of, Records, Record, HaveBooks, HavePlaces, replays}, Turning.{all_rest, still_places, owed_kept}}
+use Rattle.pas_replay.proofs.Turning.{op_costs, owed_most, AsksNoIndex, still_named, less_events, less_tries, other_stands, said_more}
+use Rattle.pas_replay.specs.{Sessions.{costs_and, AreEmpty, AreLowered}, Taking.{FewWait, room_for_taker, room_between}, Kits.IsFresh}
+use Rattle.pas_replay.specs.declared.kit.PlainKit.{PlainKit}
+use Rattle.pas_trace.{specs.{Plans.bounds_of, declared.plan.What.TheVariants.Alloc, Acts.close_acts, EveryPlan.operations_of}, proofs.Keepers.plan_actors}
+use Rattle.pas_answers.{specs.{Replays.{threads_of, empty_cache}, Answers.with_records}, proofs.{OwnRecords.all_shown, Reached.{in_phases, plan_by_one_list}}}
+use Rattle.pas_answers.proofs.Consequences.{all_true}
+use Rattle.pas_cache.{specs.Caches.AtRest, proofs.FlushesAndFrees.rests_empty}
 use Rattle.pas_steps.{specs.{Lists.word_after, Clear.HasNothing, States.{profile_of as the_profile_of, word_in}}, proofs.Nothing.nothing_yet}
 use Rattle.pas_profile.specs.{declared.word.Word.Word, Profiles.{IsValid, IsWordOf}, Rooms.EventRoom}
-use Rattle.pas_trace.{specs.{declared.plan.What.TheVariants.Alloc, Acts.close_acts, EveryPlan.operations_of}, proofs.Keepers.plan_actors}
-use Rattle.pas_answers.{specs.{Answers.with_records, Replays.empty_cache}, proofs.{OwnRecords.all_shown, Reached.{in_phases, plan_by_one_list}}}
-use Rattle.pas_answers.proofs.Consequences.{replays, all_true}
 use Rattle.pas_plain.specs.Plain.{pass_for, passes_from}
 use Rattle.pas_acts.{specs.{PlanKeepers.guarded_of, Parts.AreRooms}, proofs.ActsLeft.{number_next, number_last, next_chosen, next_passed, none_left}}
 use Rattle.pas_acts.proofs.{ActsLeft.threads_alike, PlanFacts.{plan_own, plan_scavenger, plan_total, plan_kept_own, plan_tries, plan_keeps}}
 use Rattle.pas_acts.proofs.PlanFacts.{pages_owed_at_first, no_slots}
-use Rattle.pas_cache.proofs.FlushesAndFrees.{rests_empty}
 use Rattle.pas_records.specs.Lines.{CanShow}
 
 -- ---- marks
@@ -80,28 +79,28 @@ pub as_read : {r : Replay} {left left' : Left} {T : Type 0} {h : Hand} {epoch : 
     → T × (p : Progress) × IsAt r left' h p × (p.epoch ≡ epoch)
 as_read {r} {h = h} {epoch} same so = search arith
 
--- .. where the first ones are alike
-upon_same : (r : Replay) {acts acts' : List Act} (more : Left) → acts ≡ acts' → upon r acts more ≡ upon r acts' more
-upon_same r more same = ap (λ (xs : List Act). upon r xs more) same
-
--- .. which stand before no acts
+-- .. where the first ones are alike before no acts
 upon_alike : (r : Replay) (acts acts' : List Act) (more : Left) → acts ++ [] ≡ acts' ++ [] → upon r acts more ≡ upon r acts' more
-upon_alike r acts acts' more same = upon_same r more (sym (append-nil acts) ∙ same ∙ append-nil acts')
+upon_alike r acts acts' more same = ap (λ (xs : List Act). upon r xs more) (sym (append-nil acts) ∙ same ∙ append-nil acts')
 
 pub as_first : {r : Replay} {acts acts' : List Act} {T : Type 0} {h : Hand} (more : Left) → acts ≡ acts' → T × SoFar r (upon r acts more) h
     → T × SoFar r (upon r acts' more) h
-as_first {r} more same so = as_left (upon_same r more same) so
+as_first {r} more same so = as_left (ap (λ (xs : List Act). upon r xs more) same) so
 
--- .. where all are
-module _ {r : Replay} {T : Type 0} {h : Hand} (to : ℕ → Act) (i n : ℕ) (more : Left) where
-  -- Where acts of actors from one on come next, that of the first of them does, and then those past it.
-  pub next_number : i < n → T × SoFar r (upon r (map to (numbers_from (i + 1) (n - i))) more) h
-      → T × SoFar r (upon r (to (i + 1) ∷ []) (upon r (map to (numbers_from (i + 1 + 1) (n - (i + 1)))) more)) h
-  next_number lt so = as_first more (ap (λ (ks : List ℕ). map to ks) (number_next (i + 1) (n - i) (n - (i + 1)) (omega (arith, lt)))) so
+-- .. of all actors behind this one
+module _ {r : Replay} {T : Type 0} {h : Hand} (to : ℕ → Act) (first i n : ℕ) (more : Left) where
+  -- Where acts of so many actors come next, that of the first of them does, and then those past it.
+  pub next_number : (k : ℕ) → k ≡ first + i → i < n → T × SoFar r (upon r (map to (numbers_from (first + i) (n - i))) more) h
+      → T × SoFar r (upon r (to k ∷ []) (upon r (map to (numbers_from (first + (i + 1)) (n - (i + 1)))) more)) h
+  next_number k is lt so =
+      let rest = n - (i + 1) in
+      let next : first + i + 1 ≡ first + (i + 1) = omega arith in
+      as_first more (ap (λ ks. map to ks) (number_next (first + i) (n - i) rest (omega (arith, lt)))
+      ∙ ap (λ j. to (first + i) ∷ map to (numbers_from j rest)) next ∙ ap (λ j. to j ∷ map to (numbers_from (first + (i + 1)) rest)) (sym is)) so
 
   -- Past the last actor, what comes next are the acts behind theirs.
-  pub no_number : n ≤ i → T × SoFar r (upon r (map to (numbers_from (i + 1) (n - i))) more) h → T × SoFar r more h
-  no_number le so = as_first more (ap (λ (ks : List ℕ). map to ks) (number_last (i + 1) (n - i) (omega (arith, le)))) so
+  pub no_number : n ≤ i → T × SoFar r (upon r (map to (numbers_from (first + i) (n - i))) more) h → T × SoFar r more h
+  no_number le so = as_first more (ap (λ (ks : List ℕ). map to ks) (number_last (first + i) (n - i) (omega (arith, le)))) so
 
 -- .. where those of this kind do them
 module _ (r : Replay) (to : ℕ → Act) (chosen : ℕ → Bool) (i n : ℕ) (more : Left) where
@@ -123,23 +122,6 @@ module _ (r : Replay) (to : ℕ → Act) (chosen : ℕ → Bool) (i n : ℕ) (mo
   -- Past the last actor, what comes next are the acts behind theirs.
   pub none_next : n ≤ i → upon r there more ≡ more
   none_next le = upon_alike r there [] more (none_left to chosen i n [] le)
-
--- .. where they are those of the keepers
-module _ {r : Replay} {T : Type 0} {h : Hand} (i : ℕ) (more : Left) where
-  -- Where the keepers from one on lower their guards next, the first of them does, and then those past it.
-  pub next_keeper : (keeper : ℕ) → keeper ≡ r.threads + (i + 1) → i < r.keepers
-      → T × SoFar r (upon r (map Lowers (numbers_from (r.threads + (i + 1)) (r.keepers - i))) more) h
-      → T × SoFar r (upon r (Lowers keeper ∷ []) (upon r (map Lowers (numbers_from (r.threads + (i + 1 + 1)) (r.keepers - (i + 1)))) more)) h
-  next_keeper keeper is lt so =
-      let k = r.threads + (i + 1) in
-      let m = r.keepers - (i + 1) in
-      let next : k + 1 ≡ r.threads + (i + 1 + 1) = omega arith in
-      as_first more (ap (λ ks. map Lowers ks) (number_next k (r.keepers - i) m (omega (arith, lt))) ∙ ap (λ n. Lowers k ∷ map Lowers (numbers_from n m)) next
-      ∙ ap (λ (n : ℕ). Lowers n ∷ map Lowers (numbers_from (r.threads + (i + 1 + 1)) m)) (sym is)) so
-
-  -- Past the last keeper, what comes next are the acts behind theirs.
-  pub no_keeper : r.keepers ≤ i → T × SoFar r (upon r (map Lowers (numbers_from (r.threads + (i + 1)) (r.keepers - i))) more) h → T × SoFar r more h
-  no_keeper le so = as_first more (ap (λ (ks : List ℕ). map Lowers ks) (number_last (r.threads + (i + 1)) (r.keepers - i) (omega (arith, le)))) so
 
 -- ---- the next operation
 -- (any, past the last one)
@@ -179,15 +161,10 @@ can_show {r} {h = h} (p, at) =
     subst (λ (rs : List Record). All CanShow rs) (drop_at r.told _ (length r.told) refl) (All-drop CanShow (length r.told) (r.told ++ records_in h.out) all)
 
 -- ---- what was handed on
--- Nothing was handed on at first.
-pub none_told : (waits : Option ℕ) (r : Replay) (acts : List Act) (s : Session) → Between waits r acts s → Between waits (telling r []) acts s
-none_told waits r acts s btw = subst (λ (told : List Record). Between waits (record r { told = told }) acts s) (sym (append-nil r.told)) btw
-
--- Records that were handed on after others were handed on with them.
-pub told_then : (waits : Option ℕ) (r : Replay) (acts : List Act) (s : Session) (first more : List Record)
-    → Between waits (telling (telling r first) more) acts s
-    → Between waits (telling r (first ++ more)) acts s
-told_then waits r acts s first more btw = subst (λ (told : List Record). Between waits (record r { told = told }) acts s) (append_assoc r.told first more) btw
+-- What stands where these were handed on stands where the same were, otherwise written.
+pub as_told : (waits : Option ℕ) (r : Replay) {told told' : List Record} (acts : List Act) (s : Session) → told ≡ told'
+    → Between waits (record r { told = told }) acts s → Between waits (record r { told = told' }) acts s
+as_told waits r acts s same btw = subst (λ (rs : List Record). Between waits (record r { told = rs }) acts s) same btw
 
 pub as_between : (waits : Option ℕ) (r : Replay) (s : Session) {acts acts' : List Act} → acts ≡ acts' → Between waits r acts s → Between waits r acts' s
 as_between waits r s same btw = subst (λ (xs : List Act). Between waits r xs s) same btw
@@ -284,12 +261,6 @@ starts_at : (plan : Plan) (k need : ℕ) (slot : Option PlainPass) (Rest : View 
 starts_at plan k need slot Rest rest within fresh =
     record { pass = fresh.pass; present = fresh.present; actor = fresh.actor; stands = fresh.stands; rest = rest; room = omega (arith, fresh.room, within) }
 
--- a thread or a keeper, which made no step and has nothing
-abbrev StartsAs : Bool → Plan → ℕ → Option PlainPass → Type 0
-StartsAs kind plan k slot =
-    SeatStands (region_of plan) k (rests_as kind (region_of plan) empty_cache []) slot []
-    (owes_as kind (region_of plan) empty_cache [] + (if kind then own_costs_of k (acts_of_plan plan) else kept_costs_of k (acts_of_plan plan)))
-
 actor_starts : {text : List ℕ} {plan : Plan} {kit : PlainKit} → IsPlanOf text plan → IsKitOf plan kit → (k : ℕ) → k ≤ (region_of plan).threads
     → ActorStands (threads_of plan) (region_of plan) k at_start (pass_in kit.actors.passes.items k) (acts_of_plan plan)
 actor_starts {text} {plan} {kit} read made zero le = let bound = plan_scavenger read in
@@ -303,23 +274,18 @@ actor_starts {text} {plan} {kit} read made (suc i) le =
     elim (cases_lt (threads_of plan) k) [
       | inl past ↦
           let own = plan_kept_own read k past le in
-          let starts : StartsAs false plan k slot =
-          starts_at plan k (unknown_pages f [] + kept_costs_of k (acts_of_plan plan)) slot (FitsBook f []) (record { apart = tt; of_region = tt; knows = tt; held = nothing_yet.grains; rights = nothing_yet.rights; clear = nothing_yet.clear }) (omega (arith, own, owed)) fresh in
-          subst (λ (kind : Bool). StartsAs kind plan k slot) (sym (lt-leb k (threads_of plan) past)) starts
+          let fits : FitsBook f [] [] = record { apart = tt; of_region = tt; knows = tt; held = nothing_yet.grains; rights = nothing_yet.rights; clear = nothing_yet.clear } in
+          rw (lt-leb k (threads_of plan) past) (starts_at plan k _ slot (FitsBook f []) fits (omega (arith, own, owed)) fresh)
       | inr within ↦
           let own = plan_own read k (omega arith) (omega (arith, within)) in
-          let starts : StartsAs true plan k slot =
-          starts_at plan k _ slot (AtRest f empty_cache) (rests_empty f empty_cache [] refl refl nothing_yet) (omega (arith, own, owed)) fresh in
-          subst (λ (kind : Bool). StartsAs kind plan k slot) (sym (le-leb k (threads_of plan) (omega (arith, within)))) starts
+          let rest = rests_empty f empty_cache [] refl refl nothing_yet in
+          rw (le-leb k (threads_of plan) (omega (arith, within))) (starts_at plan k _ slot (AtRest f empty_cache) rest (omega (arith, own, owed)) fresh)
     ]
 
--- each owes a deed of each page
-all_owed : (f : Profile) (kind : Bool) → records_owed_as kind f empty_cache [] [] ≡ f.pages
-all_owed f kind = grind (arith, pages_owed_at_first)
-
+-- at first each owes a deed of each page
 owed_start : (threads : ℕ) (f : Profile) (n : ℕ) → owed_by threads f at_start n ≡ n * f.pages
 owed_start threads f zero = omega arith
-owed_start threads f (suc n) = let rest = owed_start threads f n in search (arith, rest, all_owed, nat_le, suc-mul)
+owed_start threads f (suc n) = let rest = owed_start threads f n in search (arith, rest, pages_owed_at_first, nat_le, suc-mul)
 
 -- the room suffices for all that the actors owe at first, and for what is to come between two operations
 suffices : (waits : Option ℕ) {text : List ℕ} (plan : Plan) (room : ℕ) → IsPlanOf text plan → room_for_taker waits plan ≤ room
@@ -334,47 +300,39 @@ pub start : (waits : Option ℕ) {text : List ℕ} {plan : Plan} {kit : PlainKit
     → IsKitOf plan kit → records_in out ≡ [] → room_for_taker waits plan ≤ room_of out
     → Begins waits phases (replay_of plan (room_of out)) (hand_of kit.region kit.actors kit.names out)
 start waits {text} {plan} {kit} {out} phases read made empty room =
+    let f = region_of plan in
+    let acts = acts_of_plan plan in
     let actors = plan_actors plan in
-    let owed = owed_start (threads_of plan) (region_of plan) (threads_of plan + keepers_of plan) in
-    let pages = ap (λ (n : ℕ). n * (region_of plan).pages) actors in
+    let owed = owed_start (threads_of plan) f (threads_of plan + keepers_of plan) in
+    let pages = ap (λ (n : ℕ). n * f.pages) actors in
     let enough = suffices waits plan (room_of out) read room in
-    let none = ap (λ (rs : List Record). length rs) empty in (
+    let none = ap (λ (rs : List Record). length rs) empty in
+    let nobody : (k : ℕ) → threads_of plan + keepers_of plan < k → part k at_start.list ≡ [] = λ k past. refl in
+    let names : HasNames f acts kit.names at_start.names = record {
+      asked = [];
+      fit = plan_fit read (names_held kit.names) made.names;
+      tells = made.no_name;
+      stand = λ n block is. absurd (let bad : None ≡ Some block = sym (made.no_name n) ∙ is in cc);
+      known = λ n is. absurd (let bad : false ≡ true = is in cc);
+    } in
+    let caches : AreCaches at_start.caches kit.actors.caches.items = λ i d lt. sym (made.unused.each i d (omega (arith, lt, made.unused.many))) in
+    let empty_books = λ (i : ℕ) (d : GuardBook) (lt : i < length kit.actors.books.items). made.books.empty i d (omega (arith, lt, made.books.many)) in
+    let books : HaveBooks (threads_of plan) at_start.books kit.actors.books.items = λ i d lt. sym (empty_books i d lt) in
+    let places : HavePlaces (threads_of plan) kit.actors.books.items acts = λ i d lt.
+    let none = ap (λ (gs : List Guard). length gs) (empty_books i d lt) in
+    let most = made.books.places i d (omega (arith, lt, made.books.many)) in
+    let next : i + 1 ≡ suc i = omega arith in
+    omega (arith, none, most, ap (λ (k : ℕ). guarded_of k (operations_of plan)) next, plan_tries read (suc i)) in
+    let answers : (q : Progress) → GoesBy (threads_of plan) f kit.actors.indexes.items acts at_start q
+    → GoesBy (threads_of plan) f (no_ranges f.heaps) acts at_start q
+    = λ q goes. subst (λ (ix : Indexes). GoesBy (threads_of plan) f ix acts at_start q) made.indexes goes in
+    let shown : EachShown at_start.records = tt in
+    let same : room_of out ≡ room_of out = refl in
+    let few : threads_of plan + keepers_of plan ≤ f.threads = omega (arith, actors) in
+    let spare : length (records_in out) + (owed_by (threads_of plan) f at_start (threads_of plan + keepers_of plan) + room_between waits f acts) ≤ room_of out
+    = omega (arith, owed, pages, enough, none) in (
       ap (λ (ps : List (List Op)). acts_of (threads_of plan) (keepers_of plan) ps) (sym phases),
-      (
-        at_start,
-        record {
-          profile_is = made.profile;
-          actors = made.actors;
-          many = made.unused.many;
-          kept = made.books.many;
-          threads = omega (arith, actors);
-          operate = plan_operate read;
-          keep = plan_keeps read;
-          places = made.places;
-          stands = made.opening;
-          each = λ k le. actor_starts read made k le;
-          nobody = λ k past. refl;
-          names = record {
-            asked = [];
-            fit = plan_fit read (names_held kit.names) made.names;
-            tells = made.no_name;
-            stand = λ n block is. absurd (let bad : None ≡ Some block = sym (made.no_name n) ∙ is in cc);
-            known = λ n is. absurd (let bad : false ≡ true = is in cc);
-          };
-          caches_are = λ i d lt. sym (made.unused.each i d (omega (arith, lt, made.unused.many)));
-          books_are = λ i d lt. sym (made.books.empty i d (omega (arith, lt, made.books.many)));
-          books_have = λ i d lt.
-              let none = ap (λ (gs : List Guard). length gs) (made.books.empty i d (omega (arith, lt, made.books.many))) in
-              let places = made.books.places i d (omega (arith, lt, made.books.many)) in
-              let next : i + 1 ≡ suc i = omega arith in
-              omega (arith, none, places, ap (λ (k : ℕ). guarded_of k (operations_of plan)) next, plan_tries read (suc i));
-          records_are = empty;
-          shown = tt;
-          size = refl;
-          spare = omega (arith, owed, pages, enough, none);
-          answers = λ q goes. subst (λ (ix : Indexes). GoesBy (threads_of plan) (region_of plan) ix (acts_of_plan plan) at_start q) made.indexes goes;
-        },
-      ),
+      (at_start, assumption (made.unused.many, made.books.many, plan_operate read, plan_keeps read, actor_starts read made)),
       search arith,
     )
 
@@ -390,8 +348,7 @@ module _ {r : Replay} {left : Left} {h : Hand} (so : SoFar r left h) (empty : Ar
       let p = so.0 in
       let within : i < length h.caches = omega (arith, most, so.1.many) in
       let d = first_of h.caches (omega (arith, within)) in
-      let rest = subst (λ (kind : Bool). rests_as kind r.profile (p.caches (suc i)) (p.books (suc i)) (part (suc i) p.list)) (le-leb (suc i) r.threads most)
-      (so.1.each (suc i) (omega (arith, most, so.1.threads))).rest in
+      let rest = (all_rest so.1).working (suc i) (omega arith, most) in
       let none = no_slots (p.caches (suc i)).locals (ap (λ (c : Cached). c.locals) (so.1.caches_are i d within) ∙ empty i d within) in
       record { grains = λ g. rest.locals.grains g ∙ (none g).0; rights = λ page. rest.locals.rights page ∙ (none page).1; clear = rest.locals.clear }
 
@@ -400,8 +357,7 @@ module _ {r : Replay} {left : Left} {h : Hand} (so : SoFar r left h) (empty : Ar
       let p = so.0 in
       let within : j < length h.books = omega (arith, most, so.1.kept) in
       let d = first_of h.books (omega (arith, within)) in
-      let fits = subst (λ (kind : Bool). rests_as kind r.profile (p.caches (suc i)) (p.books (suc i)) (part (suc i) p.list))
-      (lt-leb (suc i) r.threads (omega (arith, place))) (so.1.each (suc i) (omega (arith, place, most, so.1.threads))).rest in
+      let fits = (all_rest so.1).keeping (suc i) (omega (arith, place), omega (arith, place, most, so.1.threads)) in
       let none = ap p.books place ∙ so.1.books_are j d within ∙ lowered j d within in
       record { grains = λ g. fits.held g ∙ ap (λ (gs : List Guard). is_outer gs (g / 256)) none; rights = fits.rights; clear = fits.clear }
 
@@ -440,11 +396,6 @@ shows waits told room {plan} {region} actors table {out} {state} limit valid thr
       profile = profile ∙ at.profile_is;
       words = λ w of. words p.list at.stands w (subst (λ (f : Profile). IsWordOf f w) (sym at.profile_is) of);
     }
-
--- ---- passes
--- the passes that were placed, and those that are left, which stand the last one first
-pub record ArePlaced (passes : List PlainPass) (places : List (Option PlainPass)) (left : List PlainPass) : Type 0 where
-  pub together : places ++ map Some (reverse left) ≡ map Some passes
 
 -- ---- the kit
 pub passes_count : (n : ℕ) (rooms : List EventRoom) → length (passes_from n rooms) ≡ length rooms

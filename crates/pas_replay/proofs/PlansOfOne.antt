@@ -1,15 +1,14 @@
 -- The bounds of a plan say whether it is of one thread: the acts of such a plan are that thread's, and its records are written in the same order in both ways.
-use Rattle.std.proofs.Common.{◌≡◌, ◌≢◌, ℕ, ◌+◌, ◌≤◌, ◌==◌, if◌then◌else◌, List, [], ◌∷◌, Option, None, slice_index, refl, ap, sym, ◌∙◌, subst, arith}
-use Rattle.std.{proofs.Common.{MatchOption, eq-eqb, ◌++◌, append_assoc, append-nil}, specs.List.AllByRecursion}
-use Rattle.pas_replay.proofs.Common.{Profile, work_of, keeper_of, IsPlanOf, bounds_of, Work, Op, Plan, Act, Operates, Guards, ReadsEpoch, StopsIdle, Ends}
-use Rattle.pas_replay.proofs.Common.{Lowers, acts_of_work, acts_of, Settles, MarksPhase, Wakes, MarksClose, phases_of, threads_of, keepers_of, acts_of_plan}
-use Rattle.pas_replay.{proofs.Common.{at_start, Shows, region_of, Progress, Advances, Reaches, InOrder, Whole, part, Record}, specs.OneThread.IsOfOneThread}
+use Rattle.std.proofs.Common.{◌≡◌, ◌≢◌, ℕ, ◌+◌, ◌≤◌, ◌==◌, if◌then◌else◌, List, [], ◌∷◌, Option, None, refl, ap, sym, ◌∙◌, subst, arith, MatchOption, eq-eqb}
+use Rattle.std.{proofs.Common.{◌++◌, append_assoc, append-nil}, specs.List.AllByRecursion}
+use Rattle.pas_replay.proofs.Common.{Profile, work_of, IsPlanOf, Work, Op, Plan, Act, Operates, Ends, acts_of_work, acts_of, Settles, MarksPhase, Wakes}
+use Rattle.pas_replay.proofs.Common.{MarksClose, phases_of, keepers_of, acts_of_plan, at_start, Shows, region_of, Progress, Advances, Reaches, InOrder, Whole}
+use Rattle.pas_replay.{proofs.Common.{part, Record, all_ops, every_plan, replays, plan_planned, plan_valid, plan_operate}, specs.OneThread.IsOfOneThread}
+use Rattle.pas_trace.specs.{Asked.{keeper_of, of_task, keeper_in}, EveryPlan.{IsActorBy, IsActorOf, AreKept, own_records}}
 use Rattle.pas_profile.proofs.Lists.{all_both}
-use Rattle.pas_trace.specs.{Asked.{of_task, keeper_in}, EveryPlan.{all_ops, IsActorBy, IsActorOf, AreKept, own_records}, Acts.{Ticks, MakesPass}}
-use Rattle.pas_trace.proofs.EveryPlan.{every_plan}
-use Rattle.pas_answers.specs.{Replays.IsReplay, Answers.records_of, Ways.{OnThreads, is_of, EachOf, records_by, by_actors, by_phases, arranged}}
-use Rattle.pas_answers.proofs.{EachAct.all_acts, OwnRecords.{each_both, piece_of, all_by, none_by}}
-use Rattle.pas_acts.proofs.{ActsOfPlan.ArePlanned, PlanFacts.plan_planned}
+use Rattle.pas_answers.{specs.{Answers.records_of, Ways.{OnThreads, is_of, EachOf, records_by, by_actors, by_phases, arranged}}, proofs.EachAct.all_acts}
+use Rattle.pas_answers.proofs.OwnRecords.{each_both, piece_of, all_by, none_by}
+use Rattle.pas_acts.proofs.ActsOfPlan.{ArePlanned}
 use Rattle.pas_steps.specs.{Events.events_by, declared.state.State.State}
 
 -- ---- operations of thread 1
@@ -19,44 +18,28 @@ IsOfOne op = op.actor ≡ 1
 abbrev pub AreOfOne : List Op → Type 0
 AreOfOne ops = AllByRecursion IsOfOne ops
 
-no_records : (f : Profile) (ops : List Op) → f.threads ≡ 1 → ArePlanned f ops → own_records f 0 ops ≡ 0 → AreOfOne ops
+pub no_records : (f : Profile) (ops : List Op) → f.threads ≡ 1 → ArePlanned f ops → own_records f 0 ops ≡ 0 → AreOfOne ops
 no_records f [] one all none = tt
 no_records f (op ∷ ops) one all none = let rest = no_records f ops one all.1 (omega (arith, none)) in search (arith, rest, eq-eqb)
 
-one_records : (f : Profile) (ops : List Op) → AreOfOne ops → own_records f 0 ops ≡ 0
+pub one_records : (f : Profile) (ops : List Op) → AreOfOne ops → own_records f 0 ops ≡ 0
 one_records f [] all = refl
 one_records f (op ∷ ops) all =
     let rest = one_records f ops all.1 in grind (arith, rest)
 
--- ---- what the bounds say
-pub bound_shows : {text : List ℕ} {plan : Plan} → IsPlanOf text plan → threads_of plan ≡ 1 → plan.guard ≡ 0 → slice_index (bounds_of plan.bounds) 0 ≡ 0
-    → IsOfOneThread plan
-bound_shows {text} {plan} is one unguarded none =
-    record { unguarded = unguarded; threads = one; own = no_records plan.profile (all_ops (phases_of plan)) one (plan_planned is) (sym (every_plan is).scavenger ∙ none) }
-
--- A plan of one thread has 0 as the scavenger's bound.
-pub one_shows : {text : List ℕ} {plan : Plan} → IsPlanOf text plan → IsOfOneThread plan → slice_index (bounds_of plan.bounds) 0 ≡ 0
-one_shows {text} {plan} is alone = (every_plan is).scavenger ∙ one_records plan.profile (all_ops (phases_of plan)) alone.own
-
 -- ---- acts
 -- the act is thread 1's, or a mark
 abbrev pub IsActOfOne : Act → Type 0
+IsActOfOne (MarksPhase n) = Unit {0}
+IsActOfOne (Wakes k) = Unit {0}
 IsActOfOne (Operates op) = op.actor ≡ 1
-IsActOfOne (Guards keeper op) = ⊥
-IsActOfOne (Ticks epoch) = ⊥
-IsActOfOne MakesPass = ⊥
-IsActOfOne ReadsEpoch = ⊥
-IsActOfOne (StopsIdle k n) = ⊥
+IsActOfOne (Settles k) = Unit {0}
+IsActOfOne MarksClose = Unit {0}
 IsActOfOne (Ends k) = k ≡ 1
-IsActOfOne (Lowers keeper) = ⊥
-IsActOfOne act = Unit {0}
+IsActOfOne act = ⊥
 
 abbrev pub AreActsOfOne : List Act → Type 0
 AreActsOfOne acts = AllByRecursion IsActOfOne acts
-
--- the scavenger, which is actor 0, isn't thread 1
-not_first : {A : Type 0} (k : ℕ) → k ≡ 0 → k ≡ 1 → A
-not_first k none one = absurd (omega (arith, none, one))
 
 -- an operation of a plan without guards that is thread 1's
 record IsPlannedOfOne (f : Profile) (op : Op) : Type 0 where
@@ -74,7 +57,7 @@ are_all f (op ∷ ops) all own kept = let rest = are_all f ops all.1 own.1 kept.
 
 work_of_one : (f : Profile) (idle : List ℕ) (op : Op) (work : Work) → IsActorBy f work op.actor → IsOfOne op → of_task keeper_of work ≡ None
     → AreActsOfOne (acts_of_work idle op work)
-work_of_one f idle op work h i j = grind (arith, not_first)
+work_of_one f idle op work h i j = grind arith
 
 -- The acts of a plan of one thread are all that thread's.
 plan_of_one : {text : List ℕ} {plan : Plan} → IsPlanOf text plan → IsOfOneThread plan → AreActsOfOne (acts_of_plan plan)
@@ -136,45 +119,16 @@ same_order since (Record.Phase n ∷ rs) own all =
     let rest = same_order [] rs tt all.1 in grind (arith, rest, by_one)
 same_order since (Record.Close ∷ rs) own all =
     let rest = same_order [] rs tt all.1 in grind (arith, rest, by_one)
-same_order since (Record.Event e ∷ rs) own all =
-    same_order (since ++ Record.Event e ∷ []) rs (each_both 1 since (Record.Event e ∷ []) own (all.0, tt)) all.1 ∙ append_assoc since (Record.Event e ∷ []) rs
-same_order since (Record.Said k said ∷ rs) own all =
-    same_order _ rs (each_both 1 since (Record.Said k said ∷ []) own (all.0, tt)) all.1 ∙ append_assoc since (Record.Said k said ∷ []) rs
+same_order since (r ∷ rs) own all = same_order (since ++ r ∷ []) rs (each_both 1 since (r ∷ []) own (all.0, tt)) all.1 ∙ append_assoc since (r ∷ []) rs
 
 -- ---- the replay
-arranged_same : {text : List ℕ} {plan : Plan} → IsPlanOf text plan → IsOfOneThread plan → (reached : Progress)
-    → Reaches (region_of plan) (acts_of_plan plan) at_start reached
-    → arranged OnThreads (region_of plan).threads reached.records ≡ reached.records
-arranged_same {text} {plan} is alone reached answers =
-    cc (same_order [] reached.records tt (keep_own (region_of plan) (acts_of_plan plan) at_start reached (plan_of_one is alone) tt answers))
-
-replay_of_one : {text : List ℕ} {plan : Plan} {whole : Whole} {records : List Record} → IsPlanOf text plan → IsOfOneThread plan
-    → IsReplay InOrder plan whole records → IsReplay OnThreads plan whole records
-replay_of_one {text} {plan} {whole} {records} is alone replay = record {
-  reached = replay.reached;
-  answers = replay.answers;
-  one_order = λ k. ap (λ (l : Whole). part k l) replay.one_order;
-  phases = replay.phases;
-  stages = replay.stages;
-  records_are = replay.records_are ∙ sym (arranged_same is alone replay.reached replay.answers);
-  legal = replay.legal;
-  nothing = replay.nothing;
-  keepers = replay.keepers;
-  run = replay.run;
-  deeds = replay.deeds;
-  stamps = replay.stamps;
-  marks = replay.marks;
-  refusals = tt;
-  indexes = tt;
-  rests = tt;
-}
-
 -- What a replay of a plan of one thread shows in the order of the text, it shows as one on threads, too.
 pub shows_of_one : {text : List ℕ} {plan : Plan} {records : List Record} {state : State} → IsPlanOf text plan → IsOfOneThread plan
     → Shows InOrder plan records state → Shows OnThreads plan records state
-shows_of_one {text} {plan} {records} {state} is alone shows = record {
-  whole = shows.whole;
-  replay = replay_of_one is alone shows.replay;
-  profile = shows.profile;
-  words = shows.words;
-}
+shows_of_one {text} {plan} {records} is alone shows =
+    let done = shows.replay in
+    let own = keep_own (region_of plan) (acts_of_plan plan) at_start done.reached (plan_of_one is alone) tt done.answers in
+    let same : arranged OnThreads (region_of plan).threads done.reached.records ≡ done.reached.records = cc (same_order [] done.reached.records tt own) in
+    let replay = replays OnThreads plan done.reached shows.whole records (plan_valid is) done.answers
+    (λ k. ap (λ (l : Whole). part k l) done.one_order) done.phases done.stages (done.records_are ∙ sym same) done.legal done.nothing tt tt (plan_operate is) in
+    record { whole = shows.whole; replay = replay; profile = shows.profile; words = shows.words }

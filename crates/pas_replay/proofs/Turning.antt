@@ -1,25 +1,23 @@
 -- THE TURN: an actor sits down, does acts of its own as at any desk, and all others still stand.
 use Rattle.std.proofs.Common.{arith, ◌≡◌, ◌≢◌, ℕ, ◌<◌, length, set, Option, Some, None, inl, inr, refl, ap, sym, ◌∙◌, subst, get_or-set_same, get_or-set_other}
-use Rattle.std.proofs.Common.{length-set, set-set, zero, suc, ◌≤◌, Bool, true, if◌then◌else◌, List, [], ◌∷◌, ◌++◌, eqb-true, le-leb, ◌+◌, ◌-◌, get_or, ◌*◌}
-use Rattle.std.proofs.{Common.{nat_le, ◌==◌, false, ◌||◌, not, length-append, append_assoc}, lemmas.{List.{set_comm, set-get_or}, Grind.get_or-set_at}}
-use Rattle.std.proofs.lemmas.Bool.{eqb-false}
+use Rattle.std.proofs.Common.{length-set, zero, suc, ◌≤◌, Bool, if◌then◌else◌, List, [], ◌∷◌, ◌++◌, eqb-true, le-leb, ◌+◌, ◌-◌, get_or, ◌*◌, nat_le, false, not}
+use Rattle.std.proofs.{Common.{length-append, append_assoc}, lemmas.{Grind.get_or-set_at, Bool.eqb-false}}
 use Rattle.pas_replay.proofs.Common.{same_Some, cases_eq, lt-leb, cases_lt, suc-mul, actor_of, profile_of, RegionStands, PassStands, standing_of, PlainPass}
-use Rattle.pas_replay.proofs.Common.{PlainDesk, Slots, pass_in, IsTaken, ChangesSeats, TakesSeat, rests_as, rests, Replay, Left, Hand, IsAt, SoFar, GoesBy}
-use Rattle.pas_replay.proofs.Common.{AreCaches, records_owed_as, owed_of, owed_by, SeatStands, owes_as, owes, own_events, ActorStands, HasNames, SoFarAt}
-use Rattle.pas_replay.proofs.Common.{session, upon, dearest, Actors, Profile, Guard, View, part, Whole, Legal, unknown_pages, FitsBook, guards_in, size_of_book}
-use Rattle.pas_replay.proofs.Common.{is_outer, GuardBook, Indexes, no_ranges, Cached, AtRest, cached, ThreadCache, Act, Operates, Settles, acts_of_work}
-use Rattle.pas_replay.proofs.Common.{acts_of_op, Op, Work, work_of, cost_of_size, Progress, after_settling, Caches, Named, indexes_after_all, AllAreNamedBy}
-use Rattle.pas_replay.proofs.Common.{Reaches, Advances, AreAtRest, owed_by_keeper, at_start, AreFit, costs_of, AreOfThreads, own_costs_of, kept_costs_of, Names}
-use Rattle.pas_replay.proofs.Common.{sum_both, EachShown, acts_shown, tries_of, AreKeptFor, idle_in, Sits, RestsAt, Moves, here, and_for, ThreadActs, sits_for}
-use Rattle.pas_replay.{proofs.Common.{Mask4, records_in, room_of, Records, Record}, specs.Sessions.{risen, StandsIn, IsInPlace, MayTakeSeat, HaveBooks}}
-use Rattle.pas_replay.specs.Sessions.{HavePlaces, MaySit}
-use Rattle.pas_plain.{specs.{Plain.Forgets, Seats.{region_of, pass_of, DeskStands}, declared.region.PlainRegion.PlainRegion}, proofs.Desks.pass_rests}
+use Rattle.pas_replay.proofs.Common.{PlainDesk, pass_in, IsTaken, TakesSeat, rests_as, rests, Replay, Left, Hand, IsAt, SoFar, GoesBy, AreCaches, owed_of}
+use Rattle.pas_replay.proofs.Common.{owed_by, SeatStands, owes, own_events, ActorStands, HasNames, SoFarAt, session, upon, dearest, Actors, Profile, Guard}
+use Rattle.pas_replay.proofs.Common.{View, part, Whole, Legal, unknown_pages, FitsBook, is_outer, GuardBook, Indexes, no_ranges, Cached, cached, ThreadCache}
+use Rattle.pas_replay.proofs.Common.{Act, Operates, Settles, acts_of_work, acts_of_op, Op, Work, work_of, cost_of_size, Progress, after_settling, Caches}
+use Rattle.pas_replay.proofs.Common.{indexes_after_all, AllAreNamedBy, Reaches, Advances, AreAtRest, owed_by_keeper, at_start, AreFit, costs_of, AreOfThreads}
+use Rattle.pas_replay.proofs.Common.{Names, sum_both, EachShown, acts_shown, tries_of, AreKeptFor, idle_in, Sits, RestsAt, Moves, here, and_for, ThreadActs}
+use Rattle.pas_replay.{proofs.Common.{sits_for, Mask4, records_in, room_of, Records, Record, HaveBooks, HavePlaces, pass_of}, specs.Sessions.records_owed_as}
+use Rattle.pas_replay.specs.Sessions.{Slots, ChangesSeats, risen, StandsIn, IsInPlace, MayTakeSeat, MaySit}
+use Rattle.pas_answers.specs.{Fit.{own_costs_of, sum_over, unbacks_of}, Answers.Books, Indexes.{indexes_after, ActIsNamedBy}, Rests.AllAtRest}
+use Rattle.pas_answers.specs.Calls.{owed_events}
+use Rattle.pas_plain.{specs.{Plain.Forgets, Seats.{region_of, DeskStands}, declared.region.PlainRegion.PlainRegion}, proofs.Desks.pass_rests}
 use Rattle.pas_profile.{specs.declared.directory.Kind.Kind, proofs.Codecs.deed_word_of-positive}
-use Rattle.pas_steps.specs.{Views.known_deed, Unknown.{unknown_below, unknown_here}, Events.events_of, Desks.triples, declared.step.Made.Made}
-use Rattle.pas_steps.proofs.Parts.{part_of_others}
-use Rattle.pas_guard.specs.Books.{AreApart, Each, IsGuardOf, KnowsGuard, is_outer_of}
+use Rattle.pas_steps.{specs.{Views.known_deed, Unknown.{unknown_below, unknown_here}, Desks.triples, declared.step.Made.Made}, proofs.Parts.part_of_others}
+use Rattle.pas_guard.specs.Books.{AreApart, Each, IsGuardOf, KnowsGuard}
 use Rattle.pas_trace.{specs.EveryPlan.records_of_work, proofs.{ThreadsInOrder.numbers_count, Costs.{large_cost, small_cost}}}
-use Rattle.pas_answers.specs.{Answers.Books, Indexes.{indexes_after, ActIsNamedBy}, Rests.AllAtRest, Calls.owed_events, Fit.{sum_over, unbacks_of}}
 use Rattle.pas_acts.{specs.{Tries.tries_of_act, Works.Later, AtDesks.{for_act, HasRoomAt, ScavengerActs}}, proofs.ActsOfPlan.{chosen_few, work_costs}}
 
 -- The one desk of a replay, at which the actors take turns; and how a replay goes on: what all actors have, and what they owe, when one did something.
@@ -28,60 +26,22 @@ use Rattle.pas_acts.{specs.{Tries.tries_of_act, Works.Later, AtDesks.{for_act, H
 risen_length : (desk : PlainDesk) (passes : Slots) → length (risen desk passes) ≡ length passes
 risen_length desk passes = length-set passes (actor_of (pass_of desk)) (Some (pass_of desk))
 
--- the one of actor k, once it is put at its place
-put_there : (passes : Slots) (k : ℕ) (p : Option PlainPass) → k < length passes → pass_in (set passes k p) k ≡ p
-put_there passes k p lt = get_or-set_same passes k p None lt
-
--- A pass that was put elsewhere leaves those of the other places as they were.
-put_elsewhere : (passes : Slots) (i k : ℕ) (p : Option PlainPass) → k ≢ i → pass_in (set passes i p) k ≡ pass_in passes k
-put_elsewhere passes i k p ne = get_or-set_other passes i k p None ne
-
--- ---- one sits down where nobody sits, and one rises
-pub sits_down : (desk : PlainDesk) (passes : Slots) (k : ℕ) (slot : Option PlainPass) → actor_of (pass_of desk) ≡ k → pass_in passes k ≡ Some (pass_of desk)
-    → risen desk (set passes k slot) ≡ passes
-sits_down desk passes k slot actor has =
-    search (arith, set-set, set-get_or)
-
--- ---- one rises with its pass p at place i, and another sits down, whose pass q was at place k
--- the one that sits down there has its pass
-pub pass_there : (desk : PlainDesk) (passes : Slots) (k : ℕ) → actor_of (pass_of desk) ≢ k → (may : MayTakeSeat desk passes k)
-    → pass_in passes k ≡ Some may.own.pass
-pass_there desk passes k other may = search (arith, put_elsewhere)
-
--- Once the desk has an actor's pass, and the one before has its own back, they changed seats.
-pub seats_changed : {desk desk' : PlainDesk} {passes : Slots} {q : PlainPass} (k n : ℕ) (slot : Option PlainPass) → n ≡ actor_of (pass_of desk)
-    → actor_of (pass_of desk) ≢ k → pass_in passes k ≡ Some q → actor_of q ≡ k
-    → region_of desk' ≡ region_of desk → pass_of desk' ≡ q → ChangesSeats desk desk' passes (set (set passes k slot) n (Some (pass_of desk))) k
-seats_changed {desk} {desk'} {passes} {q} k n slot is other has actor region pass =
-    search (arith, set_comm, set-set, set-get_or)
-
 -- ---- the one that sits down forgets what it had shown
--- it is in its own place as it was
-in_its_place : {old new : PlainPass} → Forgets old new → IsInPlace (Some old) (Some new)
-in_its_place {old} {new} forgot pass is = (
-  new,
-  refl,
-  subst (λ (x : PlainPass). StandsIn x new) (same_Some _ _ is) (record { actor = forgot.actor; room = forgot.room; stands = forgot.stands }),
-)
-
-same_place : (slot : Option PlainPass) → IsInPlace slot slot
-same_place slot pass is = (pass, is, record { actor = refl; room = refl; stands = λ f l stands. stands })
-
 -- At its own desk a pass stands in for the one that forgot.
 in_place : (desk desk' : PlainDesk) (passes : Slots) → IsTaken desk passes → Forgets (pass_of desk) (pass_of desk') → (j : ℕ)
     → IsInPlace (pass_in (risen desk passes) j) (pass_in (risen desk' passes) j)
 in_place desk desk' passes taken forgot j =
     let i = actor_of (pass_of desk) in
-    let own = λ (slot slot' : Option PlainPass) (h : slot ≡ Some (pass_of desk)) (h' : slot' ≡ Some (pass_of desk')).
-    subst (λ (x : Option PlainPass). IsInPlace x slot') (sym h) (subst (λ (x : Option PlainPass). IsInPlace (Some (pass_of desk)) x) (sym h') (in_its_place forgot)) in
     let moved = ap (λ (n : ℕ). pass_in (set passes n (Some (pass_of desk'))) j) forgot.actor in
     elim (cases_eq j i) [
       | inl same ↦
-          let here = λ (p : PlainPass). ap (λ (n : ℕ). pass_in (set passes i (Some p)) n) same ∙ put_there passes i (Some p) taken in
-          own (pass_in (risen desk passes) j) (pass_in (risen desk' passes) j) (here (pass_of desk)) (moved ∙ here (pass_of desk'))
+          let here = λ (p : PlainPass). ap (λ (n : ℕ). pass_in (set passes i (Some p)) n) same ∙ get_or-set_same passes i (Some p) None taken in
+          let stays : StandsIn (pass_of desk) (pass_of desk') = record { actor = forgot.actor; room = forgot.room; stands = forgot.stands } in
+          rw (here (pass_of desk), moved ∙ here (pass_of desk'))
+          (λ pass is. (pass_of desk', refl, subst (λ (old : PlainPass). StandsIn old (pass_of desk')) (same_Some _ _ is) stays))
       | inr other ↦
-          let there = λ (p : PlainPass). put_elsewhere passes i j (Some p) other in
-          subst (λ (x : Option PlainPass). IsInPlace (pass_in (risen desk passes) j) x) (there (pass_of desk) ∙ sym (there (pass_of desk')) ∙ sym moved) (same_place (pass_in (risen desk passes) j))
+          let there = λ (p : PlainPass). get_or-set_other passes i j (Some p) None other in
+          rw (there (pass_of desk), moved ∙ there (pass_of desk')) (λ pass is. (pass, is, record { actor = refl; room = refl; stands = λ f l stands. stands }))
     ]
 
 -- An actor that changed seats, or sat there, and forgot what it had shown, has taken its seat.
@@ -99,18 +59,18 @@ seat_taken {desk} {mid} {desk'} {passes} {passes'} k changes place region forgot
     }
 
 -- ---- at rest
-rests_of_thread : (threads : ℕ) (f : Profile) (p : Progress) (k : ℕ) (v : View) → (1 ≤ k) × (k ≤ threads) → rests threads f p k v → AtRest f (p.caches k) v
-rests_of_thread threads f p zero v is rest = absurd (omega (arith, is.0))
-rests_of_thread threads f p (suc i) v is rest = subst (λ (kind : Bool). rests_as kind f (p.caches (suc i)) (p.books (suc i)) v) (le-leb _ threads is.1) rest
-
-rests_of_keeper : (threads : ℕ) (f : Profile) (p : Progress) (k : ℕ) (v : View) → threads < k → rests threads f p k v → FitsBook f (p.books k) v
-rests_of_keeper threads f p zero v past rest = absurd (omega (arith, past))
-rests_of_keeper threads f p (suc i) v past rest =
-    subst (λ (kind : Bool). rests_as kind f (p.caches (suc i)) (p.books (suc i)) v) (lt-leb (suc i) threads past) rest
+rests_behind : (threads : ℕ) (f : Profile) (p : Progress) (k : ℕ) (v : View) → 1 ≤ k → rests threads f p k v
+    → rests_as (nat_le k threads) f (p.caches k) (p.books k) v
+rests_behind threads f p zero v some rest = absurd (omega (arith, some))
+rests_behind threads f p (suc i) v some rest = rest
 
 -- all are, wherever a replay has come
 pub all_rest : {r : Replay} {left : Left} {h : Hand} {p : Progress} → IsAt r left h p → AreAtRest r.threads r.profile p.caches p.books p.list
-all_rest {r} {p = p} at = search (arith, rests_of_thread, rests_of_keeper)
+all_rest {r} {p = p} at = record {
+  scavenger = (at.each 0 (omega arith)).rest;
+  working = λ k is. rw (le-leb k r.threads is.1) at (rests_behind r.threads r.profile p k _ is.0 (at.each k (omega (arith, is.1, at.threads))).rest);
+  keeping = λ k is. rw (lt-leb k r.threads is.0) at (rests_behind r.threads r.profile p k _ (omega (arith, is.0)) (at.each k is.1).rest);
+}
 
 -- .. before the first of the acts
 pub rest_first : (threads : ℕ) (f : Profile) (acts : List Act) (p q : Progress) (is : Reaches f acts p q) → AllAtRest threads f acts p q is
@@ -149,54 +109,29 @@ goes_both threads f indexes (x ∷ xs) ys p q r one named rested two =
 pub somewhere : {T : Type 0} {r : Replay} {left : Left} {h : Hand} {p : Progress} → T × IsAt r left h p → T × SoFar r left h
 somewhere {p = p} so = (so.0, (p, so.1))
 
--- ---- what their caches hold
-pub there_is : (caches : Caches) (list : List ThreadCache) (k : ℕ) (there : ThreadCache) → 1 ≤ k → k ≤ length list → AreCaches caches list
-    → there ≡ get_or list (k - 1) there → caches k ≡ cached there
-there_is caches list k there h i j m = grind arith
+-- ---- what is so by place
+-- What is so of each item of a list, by its number from 1 on, is so of the one that stands at a number.
+pub at_place : {A : Type 0} (P : ℕ → A → Type 0) (list : List A) (k : ℕ) (there : A) → 1 ≤ k → k ≤ length list → there ≡ get_or list (k - 1) there
+    → ((i : ℕ) (d : A) → i < length list → P (suc i) (get_or list i d)) → P k there
+at_place P list k there some most is all =
+    let place : k ≡ suc (k - 1) = omega (arith, some) in
+    rw (place, is) (all (k - 1) there (omega (arith, some, most)))
 
--- The caches in hand are those of the replay, where one thread's became another on both sides.
-pub set_caches : {caches caches' : Caches} (list : List ThreadCache) (k : ℕ) (cache : ThreadCache) → 1 ≤ k → k ≤ length list → caches' k ≡ cached cache
-    → ((j : ℕ) → j ≢ k → caches' j ≡ caches j) → AreCaches caches list → AreCaches caches' (set list (k - 1) cache)
-set_caches {caches} {caches'} list k cache some most its others all i d less = search (arith, length-set, cases_eq, get_or-set_at, get_or-set_other)
+-- .. and of each where one was set, if it is of that one and still is of the others
+pub set_at_place : {A : Type 0} (P P' : ℕ → A → Type 0) (list : List A) (k : ℕ) (item : A) → 1 ≤ k → k ≤ length list → P' k item
+    → ((j : ℕ) (x : A) → j ≢ k → P j x → P' j x) → ((i : ℕ) (d : A) → i < length list → P (suc i) (get_or list i d))
+    → (i : ℕ) (d : A) → i < length (set list (k - 1) item) → P' (suc i) (get_or (set list (k - 1) item) i d)
+set_at_place P P' list k item some most now others all i d less =
+    let within : i < length list = omega (arith, less, length-set list (k - 1) item) in
+    elim (cases_eq (suc i) k) [
+      | inl same ↦ search (arith, get_or-set_at)
+      | inr other ↦ search (arith, get_or-set_other)
+    ]
 
 -- what is so of those below a place, and of the one that was put there, is so of those below the next place
 pub so_below_next : {A : Type 0} (P : A → Type 0) (xs xs' : List A) (i : ℕ) (x : A) → xs' ≡ set xs i x → i < length xs
     → ((j : ℕ) (d : A) → j < i → P (get_or xs j d)) → P x → (j : ℕ) (d : A) → j < i + 1 → P (get_or xs' j d)
 so_below_next P xs xs' i x is lt before this j d less = search (arith, cases_eq, get_or-set_at, get_or-set_other)
-
--- ---- the books of the keepers
-pub book_is : (threads : ℕ) (books : Books) (list : List GuardBook) (i : ℕ) (there : GuardBook) → 1 ≤ i → i ≤ length list → HaveBooks threads books list
-    → there ≡ get_or list (i - 1) there → books (threads + i) ≡ guards_in there
-book_is threads books list i there h j k m = grind arith
-
--- A keeper has a place in its book for each guarded request that it tries yet.
-pub place_is : (threads : ℕ) (list : List GuardBook) (acts : List Act) (i : ℕ) (there : GuardBook) → 1 ≤ i → i ≤ length list → HavePlaces threads list acts
-    → there ≡ get_or list (i - 1) there
-    → length (guards_in there) + tries_of (threads + i) acts ≤ size_of_book there
-place_is threads list acts i there h j k m = grind arith
-
--- The books in hand are those of the replay, where one keeper's became another on both sides.
-pub set_books : {books books' : Books} (threads : ℕ) (list : List GuardBook) (i : ℕ) (book : GuardBook) → 1 ≤ i → i ≤ length list
-    → books' (threads + i) ≡ guards_in book → ((j : ℕ) → j ≢ threads + i → books' j ≡ books j) → HaveBooks threads books list
-    → HaveBooks threads books' (set list (i - 1) book)
-set_books {books} {books'} threads list i book some most its others all j d less = search (arith, length-set, cases_eq, get_or-set_at, get_or-set_other)
-
--- what is so of each book of a list, by its place, is so where one was set
-module _ (P : ℕ → GuardBook → Type 0) (list : List GuardBook) (i : ℕ) (book : GuardBook) where
-  set_each : i < length list → P i book → ((j : ℕ) (d : GuardBook) → j < length list → P j (get_or list j d)) → (j : ℕ) (d : GuardBook) → j < length list
-      → P j (get_or (set list i book) j d)
-  set_each lt this all j d less = search (arith, cases_eq, get_or-set_at, get_or-set_other)
-
--- Each keeper has places for what it tries yet, where one's book has them after an act and the others tried nothing more.
-pub set_places : (threads : ℕ) (list : List GuardBook) (i : ℕ) (book : GuardBook) (acts more : List Act) → 1 ≤ i → i ≤ length list
-    → length (guards_in book) + tries_of (threads + i) more ≤ size_of_book book → ((j : ℕ) → tries_of j more ≤ tries_of j acts)
-    → HavePlaces threads list acts → HavePlaces threads (set list (i - 1) book) more
-set_places threads list i book acts more some most this fewer all j d less =
-    let at : i - 1 < length list = omega (arith, some, most) in
-    let place : i ≡ suc (i - 1) = omega (arith, some) in
-    set_each (λ (m : ℕ) (b : GuardBook). length (guards_in b) + tries_of (threads + suc m) more ≤ size_of_book b) list (i - 1) book at
-    (subst (λ (m : ℕ). length (guards_in book) + tries_of (threads + m) more ≤ size_of_book book) place this)
-    (λ m b lt. let one = all m b lt in let few = fewer (threads + suc m) in omega (arith, one, few)) j d (omega (arith, less, length-set list (i - 1) book))
 
 -- fewer acts ask for fewer places
 pub still_places : (threads : ℕ) (list : List GuardBook) (acts more : List Act) → ((j : ℕ) → tries_of j more ≤ tries_of j acts) → HavePlaces threads list acts
@@ -225,20 +160,12 @@ module _ (threads : ℕ) (f : Profile) (p q : Progress) (k : ℕ) (kept : Others
   -- What all actors owe changes by what one actor owes, where nothing of the others changed.
   pub owed_moves : (n : ℕ) → 1 ≤ k → k ≤ n → owed_by threads f q n + owed_of threads f p k ≡ owed_by threads f p n + owed_of threads f q k
   owed_moves zero some most = absurd (omega (arith, some, most))
-  owed_moves (suc n) some most = elim (cases_eq (suc n) k) [
-    | inl here ↦
-        search (arith, owed_kept)
-    | inr other ↦
-        omega (arith, owed_same (suc n) other, owed_moves n some (omega (arith, most, other)))
-  ]
+  owed_moves (suc n) some most = let rest = owed_moves n some in search (arith, cases_eq, rest, owed_same, owed_kept)
 
 -- one actor owes no more than all
 pub owed_at : (threads : ℕ) (f : Profile) (p : Progress) (k n : ℕ) → 1 ≤ k → k ≤ n → owed_of threads f p k ≤ owed_by threads f p n
 owed_at threads f p k zero some most = absurd (omega (arith, some, most))
-owed_at threads f p k (suc n) some most = elim (cases_eq (suc n) k) [
-  | inl here ↦ let same = ap (λ (m : ℕ). owed_of threads f p m) here in omega (arith, same)
-  | inr other ↦ let rest = owed_at threads f p k n some (omega (arith, most, other)) in omega (arith, rest)
-]
+owed_at threads f p k (suc n) some most = let rest = owed_at threads f p k n some in search (arith, cases_eq, rest)
 
 -- a thread, and a keeper
 thread_owes : (threads : ℕ) (f : Profile) (p : Progress) (k : ℕ) → k ≤ threads → owed_of threads f p k ≡ owed_events f (p.caches k) (part k p.list)
@@ -262,19 +189,11 @@ low_within n (guard ∷ guards) = one_if (nat_le guard.low n) + low_within n gua
 within_same : (low n : ℕ) → low ≢ suc n → nat_le low (suc n) ≡ nat_le low n
 within_same low n other = search (arith, cases_lt, lt-leb, le-leb)
 
--- Where not one of two tests passes, both fail.
-neither : (a b : Bool) → (a || b) ≡ false → (a ≡ false) × (b ≡ false)
-neither a b none = grind arith
-
 -- no guard has its low page there
 none_there : (n : ℕ) (guards : List Guard) → is_outer guards (suc n) ≡ false → low_within (suc n) guards ≡ low_within n guards
 none_there n [] none = refl
 none_there n (guard ∷ guards) none =
-    let apart = neither (is_outer_of guard (suc n)) (is_outer guards (suc n)) none in
-    let other = eqb-false guard.low (suc n) (neither (guard.low == suc n) (guard.high == suc n) apart.0).0 in
-    let same = within_same guard.low n other in
-    let rest = none_there n guards apart.1 in
-    ap (λ (t : Bool). one_if t + low_within (suc n) guards) same ∙ ap (λ (m : ℕ). one_if (nat_le guard.low n) + m) rest
+    let rest = none_there n guards in search (arith, rest, eqb-false, within_same)
 
 -- a page counts once, as one whose deed isn't known or as the low page of a guard
 one_page : (f : Profile) (n : ℕ) (guards : List Guard) (v : View) → AreApart guards → Each (KnowsGuard v) guards
@@ -286,22 +205,17 @@ one_page f n (guard ∷ guards) v apart knows = elim (cases_eq guard.low (suc n)
       let known : known_deed v (suc n) ≢ 0 = subst (λ (page : ℕ). known_deed v page ≢ 0) here (λ is. deed_word_of-positive (record { heap = guard.block.heap; kind = Kind.Large }) (sym knows.0.low ∙ is)) in
       let first = le-leb guard.low (suc n) (omega (arith, here)) in
       let before = lt-leb guard.low n (omega (arith, here)) in
-      omega (arith, none, known_here (known_deed v (suc n)) known, ap one_if first, ap one_if before)
+      let page : unknown_here (known_deed v (suc n)) ≡ 0 = grind (arith, eqb-false) in
+      omega (arith, none, page, ap one_if first, ap one_if before)
   | inr other ↦
       omega (arith, ap one_if (within_same guard.low n other), one_page f n guards v apart.2 knows.1)
 ]
-  where
-    known_here : (deed : ℕ) → deed ≢ 0 → unknown_here deed ≡ 0
-    known_here deed some = grind (arith, eqb-false)
 
 within_pages : (f : Profile) (n : ℕ) (guards : List Guard) (v : View) → AreApart guards → Each (IsGuardOf f) guards → Each (KnowsGuard v) guards
     → unknown_below n v + low_within n guards ≤ n
-within_pages f zero guards v apart of knows = let none = none_at_first guards of in omega (arith, none)
-  where
-    none_at_first : (gs : List Guard) → Each (IsGuardOf f) gs → low_within 0 gs ≡ 0
-    none_at_first [] each = refl
-    none_at_first (g ∷ gs) each =
-        omega (arith, ap one_if (lt-leb g.low 0 (omega (arith, each.0.low.0))), none_at_first gs each.1)
+within_pages f zero [] v apart of knows = omega arith
+within_pages f zero (guard ∷ guards) v apart of knows =
+    omega (arith, ap one_if (lt-leb guard.low 0 (omega (arith, of.0.low.0))), within_pages f zero guards v apart.2 of.1 knows.1)
 within_pages f (suc n) guards v apart of knows =
     omega (arith, one_page f n guards v apart knows, within_pages f n guards v apart of knows)
 
@@ -315,10 +229,9 @@ keeper_owes_few f guards v fits = search (arith, within_pages, all_within)
 
 unknown_few : (n : ℕ) (v : View) → unknown_below n v ≤ n
 unknown_few zero v = omega arith
-unknown_few (suc n) v = let rest = unknown_few n v in let one = at_most_one (known_deed v (suc n)) in omega (arith, rest, one)
-  where
-    at_most_one : (deed : ℕ) → unknown_here deed ≤ 1
-    at_most_one deed = grind arith
+unknown_few (suc n) v =
+    let one : unknown_here (known_deed v (suc n)) ≤ 1 = grind arith in
+    omega (arith, unknown_few n v, one)
 
 -- Between two acts each actor owes at most a record for each page, and one for each entry of a log.
 pub owed_most : {r : Replay} {left : Left} {h : Hand} {p : Progress} → IsAt r left h p → (n : ℕ) → n ≤ r.threads + r.keepers
@@ -375,20 +288,6 @@ may_take_seat desk actors k within (taken, (p, at)) =
 abbrev pub hand : PlainDesk → Slots → List ThreadCache → List GuardBook → ℕ → Indexes → Names → Records → Hand
 hand desk passes caches books places indexes table out = record { region = region_of desk; passes = risen desk passes; caches = caches; books = books; places = places; indexes = indexes; table = table; out = out }
 
--- An actor stands with a pass in the place of its own.
-stands_in : {f : Profile} {k : ℕ} {Rest : View → Type 0} {slot slot' : Option PlainPass} {l : Whole} {need : ℕ} → IsInPlace slot slot'
-    → SeatStands f k Rest slot l need → SeatStands f k Rest slot' l need
-stands_in {f} {k} {l = l} {need = need} in_place st =
-    let there = in_place st.pass st.present in
-    record {
-      pass = there.0;
-      present = there.1;
-      actor = there.2.actor ∙ st.actor;
-      stands = there.2.stands f l st.stands;
-      rest = st.rest;
-      room = subst (λ (n : ℕ). length (events_of k (part k l)) + need ≤ n) (sym there.2.room) st.room;
-    }
-
 -- .. is what was in hand before it sat down
 pub sat_down : {r left desk desk' passes passes' k caches books places indexes table out p : _}
     → TakesSeat desk desk' passes passes' k
@@ -396,56 +295,35 @@ pub sat_down : {r left desk desk' passes passes' k caches books places indexes t
 sat_down {r} {left} {desk' = desk'} {passes' = passes'} {p = p} seat at =
     let stands : RegionStands (region_of desk') p.list = subst (λ (g : PlainRegion). RegionStands g p.list) (sym seat.region_is) at.stands in
     let each : (j : ℕ) → j ≤ r.profile.threads → ActorStands r.threads r.profile j p (pass_in (risen desk' passes') j) left.acts
-    = λ j most. stands_in (seat.in_place j) (at.each j most) in
+    = λ j most.
+    let st = at.each j most in
+    let there = seat.in_place j st.pass st.present in
+    record {
+      pass = there.0;
+      present = there.1;
+      actor = there.2.actor ∙ st.actor;
+      stands = there.2.stands r.profile p.list st.stands;
+      rest = st.rest;
+      room = rw there.2.room st.room;
+    } in
     assumption (ap profile_of seat.region_is ∙ at.profile_is, seat.as_many ∙ at.actors)
 
--- ---- at the desk
-module _ {r : Replay} {left desk0 desk passes0 passes caches books places indexes table out p : _} (k : ℕ) (within : k ≤ r.threads + r.keepers)
-    (seat : TakesSeat desk0 desk passes0 passes k) (before : IsAt r left (hand desk0 passes0 caches books places indexes table out) p) where
-  -- The replay is at these acts.
-  at : IsAt r left (hand desk passes caches books places indexes table out) p
-  at = sat_down seat before
-
-  -- The actor is one of the region.
-  le : k ≤ r.profile.threads
-  le = omega (arith, within, before.threads)
-
-  has_place : k < length passes
-  has_place = let sized = risen_length desk passes in omega (arith, sized, at.actors, le)
-
-  its_pass : (at.each k le).pass ≡ pass_of desk
-  its_pass = search (arith, same_Some, put_there, has_place)
-
-  stood_now : DeskStands desk (part k p.list) p.list
-  stood_now = search (arith, its_pass)
-
-  -- An actor that took its seat sits at the desk as it rested, with room for its acts.
-  pub sits_now : Sits r.profile k (rests r.threads r.profile p k) (standing_of desk) p.list
-      (owes r.threads r.profile p k (part k p.list) + own_events r.threads r.profile k left.acts)
-  sits_now = search (arith, stood_now, its_pass)
-
 -- ---- the others
-module _ (threads : ℕ) (f : Profile) (p q : Progress) where
-  -- And owes the same.
-  owes_kept : (j : ℕ) (v : View) → q.caches j ≡ p.caches j → owes threads f q j v ≡ owes threads f p j v
-  owes_kept j v h = grind arith
-
-  -- Another actor than the one that made steps still stands, with its acts that are left.
-  pub other_stands : {j k : ℕ} {slot slot' : Option PlainPass} (acts more : List Act) (steps : List Made) → k ≢ j → q.list ≡ triples k steps ++ p.list
-      → q.caches j ≡ p.caches j → q.books j ≡ p.books j → slot' ≡ slot
-      → own_events threads f j more ≤ own_events threads f j acts → ActorStands threads f j p slot acts → ActorStands threads f j q slot' more
-  other_stands {j} {k} {slot} {slot'} acts more steps ne list cache book there free st =
-      let kept : part j q.list ≡ part j p.list = ap (λ (w : Whole). part j w) list ∙ part_of_others j k steps p.list ne in
-      let events = ap (λ (v : View). length (events_of j v)) kept in
-      let owed = owes_kept j (part j q.list) cache ∙ ap (λ (v : View). owes threads f p j v) kept in
-      record {
-        pass = st.pass;
-        present = there ∙ st.present;
-        actor = st.actor;
-        stands = subst (λ (w : Whole). PassStands f st.pass w) (sym list) (pass_rests f st.pass k steps p.list (λ e. ne (e ∙ st.actor)) st.stands);
-        rest = grind arith;
-        room = omega (arith, events, owed, st.room, free);
-      }
+-- Another actor than the one that made steps still stands, with its acts that are left.
+pub other_stands : (threads : ℕ) (f : Profile) (p q : Progress) {j k : ℕ} {slot slot' : Option PlainPass} (acts more : List Act) (steps : List Made) → k ≢ j
+    → q.list ≡ triples k steps ++ p.list → q.caches j ≡ p.caches j → q.books j ≡ p.books j → slot' ≡ slot
+    → own_events threads f j more ≤ own_events threads f j acts → ActorStands threads f j p slot acts → ActorStands threads f j q slot' more
+other_stands threads f p q {j} {k} {slot} {slot'} acts more steps ne list cache book there free st =
+    let kept : part j q.list ≡ part j p.list = ap (λ (w : Whole). part j w) list ∙ part_of_others j k steps p.list ne in
+    let owed : owes threads f q j (part j p.list) ≡ owes threads f p j (part j p.list) = grind arith in
+    record {
+      pass = st.pass;
+      present = there ∙ st.present;
+      actor = st.actor;
+      stands = subst (λ (w : Whole). PassStands f st.pass w) (sym list) (pass_rests f st.pass k steps p.list (λ e. ne (e ∙ st.actor)) st.stands);
+      rest = grind arith;
+      room = rw kept (omega (arith, owed, st.room, free));
+    }
 
 -- ---- what acts cost, and those behind them
 behind : (cost : Act → ℕ) (first more : List Act) → sum_over cost more ≤ sum_over cost (first ++ more)
@@ -503,57 +381,69 @@ pub record HaveInHand (r : Replay) (more : Left) (caches : List ThreadCache) (bo
   pub size : room_of out ≡ r.room
   pub spare : length (records_in out) + (owed_by r.threads r.profile q (r.threads + r.keepers) + more.room) ≤ room_of out
 
-module _ {r : Replay} {left more : Left} {desk0 desk desk' : PlainDesk} {passes0 passes : Slots} {caches caches' : List ThreadCache}
-    {books books' : List GuardBook} {places places' : ℕ} {indexes indexes' : Indexes} {table table' : Names} {out out' : Records} {p q : Progress} (k : ℕ)
-    (within : k ≤ r.threads + r.keepers)
-    (seat : TakesSeat desk0 desk passes0 passes k) (before : IsAt r left (hand desk0 passes0 caches books places indexes table out) p)
-    (x : Turned r k left.acts more.acts indexes indexes' desk desk' p q) (have : HaveInHand r more caches' books' places' table' out' q) where
-  stood_then : DeskStands desk' (x.moves.steps ++ part k p.list) q.list
-  stood_then = subst (λ (l : Whole). DeskStands desk' (x.moves.steps ++ part k p.list) l) (ap (λ (m : ℕ). triples m x.moves.steps ++ p.list) seat.actor_is
-      ∙ sym x.moves.list_is) (x.moves.calls.adds.added (part k p.list) p.list (stood_now k within seat before) (before.each k (le k within seat before)).rest)
+-- ---- at the desk
+module _ {r : Replay} {left desk0 desk passes0 passes caches books places indexes table out p : _} (k : ℕ) (within : k ≤ r.threads + r.keepers)
+    (seat : TakesSeat desk0 desk passes0 passes k) (before : IsAt r left (hand desk0 passes0 caches books places indexes table out) p) where
+  -- The replay is at these acts.
+  at : IsAt r left (hand desk passes caches books places indexes table out) p
+  at = sat_down seat before
 
-  this_stands : ActorStands r.threads r.profile k q (pass_in (risen desk' passes) k) more.acts
-  this_stands = record {
-    pass = pass_of desk';
-    present = ap (λ (m : ℕ). pass_in (set passes m (Some (pass_of desk'))) k) x.sits.actor ∙ put_there passes k _ (has_place k within seat before);
-    actor = x.sits.actor;
-    stands = subst (λ (g : Profile). PassStands g (pass_of desk') q.list) x.sits.profile stood_then.pass;
-    rest = x.sits.rest;
-    room = x.sits.room;
-  }
+  -- The actor is one of the region.
+  le : k ≤ r.profile.threads
+  le = omega (arith, within, before.threads)
 
-  -- An actor that took its seat and did its acts leaves the replay where the acts after them come next.
-  pub turn : IsTaken desk' passes × IsAt r more (hand desk' passes caches' books' places' indexes' table' out') q
-  turn =
-      let lt = has_place k within seat before in
-      let each : (j : ℕ) → j ≤ r.profile.threads → ActorStands r.threads r.profile j q (pass_in (risen desk' passes) j) more.acts
-      = λ j most. elim (cases_eq j k) [
-        | inl same ↦ subst (λ (m : ℕ). ActorStands r.threads r.profile m q (pass_in (risen desk' passes) m) more.acts) (sym same) this_stands
-        | inr other ↦ other_stands r.threads r.profile p q left.acts more.acts x.moves.steps (λ (e : k ≡ j). other (sym e)) x.moves.list_is
-            (x.kept.caches j other) (x.kept.books j other) (search (arith, put_elsewhere)) (x.free j other) ((at k within seat before).each j most)
-      ] in
-      let nobody : (j : ℕ) → r.threads + r.keepers < j → part j q.list ≡ []
-      = λ j past. ap (λ l. part j l) x.moves.list_is ∙ part_of_others j k x.moves.steps p.list (λ e. omega (arith, e, within, past)) ∙ before.nobody j past in
-      let shown : EachShown q.records = x.shows (subst (λ (f : Profile). Legal f q.list) x.sits.profile stood_then.region.legal) before.shown in
-      let actors = risen_length desk' passes ∙ sym (risen_length desk passes) ∙ (at k within seat before).actors in
-      let answer : (s : Progress) → GoesBy r.threads r.profile indexes' more.acts q s → GoesBy r.threads r.profile (no_ranges r.profile.heaps) r.acts at_start s
-      = λ s rest. before.answers s (x.reaches s rest) in
-      (omega (arith, x.sits.actor, lt), assumption (x.sits.profile, actors, before.threads, stood_then.region))
+  has_place : k < length passes
+  has_place = let sized = risen_length desk passes in omega (arith, sized, at.actors, le)
+
+  its_pass : (at.each k le).pass ≡ pass_of desk
+  its_pass = search (arith, same_Some, get_or-set_same, has_place)
+
+  stood_now : DeskStands desk (part k p.list) p.list
+  stood_now = search (arith, its_pass)
+
+  -- An actor that took its seat sits at the desk as it rested, with room for its acts.
+  pub sits_now : Sits r.profile k (rests r.threads r.profile p k) (standing_of desk) p.list
+      (owes r.threads r.profile p k (part k p.list) + own_events r.threads r.profile k left.acts)
+  sits_now = search (arith, stood_now, its_pass)
+
+  module _ {more : Left} {desk' caches' books' places' indexes' table' out' q : _} (x : Turned r k left.acts more.acts indexes indexes' desk desk' p q)
+      (have : HaveInHand r more caches' books' places' table' out' q) where
+    stood_then : DeskStands desk' (x.moves.steps ++ part k p.list) q.list
+    stood_then = subst (λ (l : Whole). DeskStands desk' (x.moves.steps ++ part k p.list) l) (ap (λ (m : ℕ). triples m x.moves.steps ++ p.list) seat.actor_is
+        ∙ sym x.moves.list_is) (x.moves.calls.adds.added (part k p.list) p.list stood_now (before.each k le).rest)
+
+    this_stands : ActorStands r.threads r.profile k q (pass_in (risen desk' passes) k) more.acts
+    this_stands = record {
+      pass = pass_of desk';
+      present = ap (λ (m : ℕ). pass_in (set passes m (Some (pass_of desk'))) k) x.sits.actor ∙ get_or-set_same passes k _ None has_place;
+      actor = x.sits.actor;
+      stands = subst (λ (g : Profile). PassStands g (pass_of desk') q.list) x.sits.profile stood_then.pass;
+      rest = x.sits.rest;
+      room = x.sits.room;
+    }
+
+    -- An actor that took its seat and did its acts leaves the replay where the acts after them come next.
+    pub turn : IsTaken desk' passes × IsAt r more (hand desk' passes caches' books' places' indexes' table' out') q
+    turn =
+        let each : (j : ℕ) → j ≤ r.profile.threads → ActorStands r.threads r.profile j q (pass_in (risen desk' passes) j) more.acts
+        = λ j most. elim (cases_eq j k) [
+          | inl same ↦ subst (λ (m : ℕ). ActorStands r.threads r.profile m q (pass_in (risen desk' passes) m) more.acts) (sym same) this_stands
+          | inr other ↦ other_stands r.threads r.profile p q left.acts more.acts x.moves.steps (λ (e : k ≡ j). other (sym e)) x.moves.list_is
+              (x.kept.caches j other) (x.kept.books j other) (search (arith, get_or-set_other)) (x.free j other) (at.each j most)
+        ] in
+        let nobody : (j : ℕ) → r.threads + r.keepers < j → part j q.list ≡ []
+        = λ j past. ap (λ l. part j l) x.moves.list_is ∙ part_of_others j k x.moves.steps p.list (λ e. omega (arith, e, within, past)) ∙ before.nobody j past in
+        let shown : EachShown q.records = x.shows (subst (λ (f : Profile). Legal f q.list) x.sits.profile stood_then.region.legal) before.shown in
+        let actors = risen_length desk' passes ∙ sym (risen_length desk passes) ∙ at.actors in
+        let answer : (s : Progress) → GoesBy r.threads r.profile indexes' more.acts q s → GoesBy r.threads r.profile (no_ranges r.profile.heaps) r.acts at_start s
+        = λ s rest. before.answers s (x.reaches s rest) in
+        (omega (arith, x.sits.actor, has_place), assumption (x.sits.profile, actors, before.threads, stood_then.region))
 
 -- the actor alone made the steps between, and its cache and its book alone changed
 pub kept_by_moves : {k : ℕ} {Rest Rest' : View → Type 0} {desk desk' : PlainDesk} {p q : Progress}
     → Moves k Rest Rest' (standing_of desk) (standing_of desk') p q → ((j : ℕ) → j ≢ k → q.caches j ≡ p.caches j) → ((j : ℕ) → j ≢ k → q.books j ≡ p.books j)
     → OthersKept k p q
 kept_by_moves {k} {p = p} moves caches books = search (arith, part_of_others)
-
--- ---- an actor behind the scavenger, which is a thread or a keeper
-abbrev pub SitsAs : Bool → Replay → ℕ → PlainDesk → List Act → Progress → Type 0
-SitsAs kind r k desk acts p = Sits r.profile k (rests_as kind r.profile (p.caches k) (p.books k)) (standing_of desk) p.list
-    (owes_as kind r.profile (p.caches k) (part k p.list) + (if kind then own_costs_of k acts else kept_costs_of k acts))
-
-abbrev pub MovesAs : Bool → Replay → ℕ → PlainDesk → PlainDesk → Progress → Progress → Type 0
-MovesAs kind r k desk desk' p q =
-    Moves k (rests_as kind r.profile (p.caches k) (p.books k)) (rests_as kind r.profile (q.caches k) (q.books k)) (standing_of desk) (standing_of desk') p q
 
 -- ---- the turn of a thread
 -- for how much there is room besides: for the acts that are left, what the others owe, and what is said besides
@@ -562,28 +452,27 @@ later_for r k p more extra =
     record { events = own_costs_of k more.acts; records = (owed_by r.threads r.profile p (r.threads + r.keepers) - owed_events r.profile (p.caches k) (part k p.list)) + (more.room + extra) }
 
 -- it rests at the desk, with room for acts of this cost
-pub thread_now : {r : Replay} {left : Left} {desk0 desk : PlainDesk} {passes0 passes : Slots} {caches : List ThreadCache} {books : List GuardBook}
-    {places : ℕ} {indexes : Indexes} {table : Names} {out : Records} {p : Progress} {c : Cached} (k cost extra : ℕ) (more : Left)
+pub thread_now : {r : Replay} {left : Left} {p : Progress} {desk0 desk passes0 passes caches books places indexes table out c : _} (k cost extra : ℕ)
+    (more : Left)
     → 1 ≤ k → k ≤ length caches → TakesSeat desk0 desk passes0 passes k
     → p.caches k ≡ c → own_costs_of k left.acts ≡ cost + own_costs_of k more.acts → left.room ≡ cost + (extra + more.room)
     → IsAt r left (hand desk0 passes0 caches books places indexes table out) p
     → RestsAt r.profile k (standing_of desk) c out (and_for cost (later_for r k p more extra)) p
 thread_now zero cost extra more some most seat cache own costs at = absurd (omega (arith, some))
-thread_now {r} {left} {desk0} {desk} {passes0} {passes} {p = p} {c} (suc i) cost extra more some most seat cache own costs at =
+thread_now {r} {left} {p} {desk0} {desk} {passes0} {passes} {c = c} (suc i) cost extra more some most seat cache own costs at =
     let f = r.profile in
     let k = suc i in
     let within : k ≤ r.threads = omega (arith, most, at.many) in
     let least = owed_at r.threads f p k (r.threads + r.keepers) some (omega (arith, within)) in
     let mine = thread_owes r.threads f p k within in
     let owed = ap (λ (d : Cached). owed_events f d (part k p.list)) cache in
-    let sits = subst (λ (kind : Bool). SitsAs kind r k desk left.acts p) (le-leb k r.threads within) (sits_now k (omega (arith, within)) seat at) in
+    let sits = rw (le-leb k r.threads within) at (sits_now k (omega (arith, within)) seat at) in
     -- its seat and its cache are those; there is room for what it owes, within what all owe, and for what the acts ask
     search arith
 
 -- A thread that took its seat and did its acts leaves the replay where the acts after them come next.
-pub thread_turn : {r : Replay} {first : List Act} {more : Left} {desk0 desk desk' : PlainDesk} {passes0 passes : Slots} {caches : List ThreadCache}
-    {books : List GuardBook} {places : ℕ} {indexes indexes' : Indexes} {table table' : Names} {out out1 out2 : Records} {p : Progress} {c : Cached}
-    {came : List Named} {told : List Record} {extra : ℕ}
+pub thread_turn : {r : Replay} {more : Left} {p : Progress} {first desk0 desk desk' passes0 passes caches books places indexes indexes' table table' : _}
+    {out out1 out2 c came told extra : _}
     (k : ℕ) (cache : ThreadCache) → 1 ≤ k → k ≤ length caches → TakesSeat desk0 desk passes0 passes k → p.caches k ≡ c
     → IsAt r (upon r first more) (hand desk0 passes0 caches books places indexes table out) p
     → (did : ThreadActs r.profile k first came told (here (standing_of desk) c out) (here (standing_of desk') (cached cache) out1)
@@ -595,28 +484,23 @@ pub thread_turn : {r : Replay} {first : List Act} {more : Left} {desk0 desk desk
     → length told ≤ extra → records_in out2 ≡ records_in out1 ++ told → room_of out2 ≡ room_of out1
     → IsTaken desk' passes × IsAt r more (hand desk' passes (set caches (k - 1) cache) books places indexes' table' out2) did.reached
 thread_turn zero cache some most seat was at did named after rested names operate keep few added room = absurd (omega (arith, some))
-thread_turn {r} {first} {more} {desk0} {desk} {desk'} {passes0} {passes} {caches} {books} {places} {indexes} {indexes'} {table} {table'} {out} {out1} {out2} {p} {c} {came} {told} {extra} (suc i) cache some most seat was at did named after rested names operate keep few added room =
+thread_turn {r} {more} {p} {first} {desk0} {desk} {desk'} {passes0} {passes} {caches} {books} {places} {indexes} {indexes'} {table} {table'} {out} {out1} {out2} {c} {came} {told} {extra} (suc i) cache some most seat was at did named after rested names operate keep few added room =
     let f = r.profile in
     let k = suc i in
     let q = did.reached in
     let now = did.stands.cache in
     let within : k ≤ r.threads = omega (arith, most, at.many) in
     let all : k ≤ r.threads + r.keepers = omega (arith, within) in
-    let kind : true ≡ nat_le k r.threads = sym (le-leb k r.threads within) in
-    let moves0 : Moves k (AtRest f (p.caches k)) (AtRest f (q.caches k)) (standing_of desk) (standing_of desk') p q =
-    subst (λ (d : Cached). Moves k (AtRest f d) (AtRest f (q.caches k)) (standing_of desk) (standing_of desk') p q) (sym was)
-    (subst (λ (d : Cached). Moves k (AtRest f c) (AtRest f d) (standing_of desk) (standing_of desk') p q) (sym now) did.moves) in
-    let moves = subst (λ (b : Bool). MovesAs b r k desk desk' p q) kind moves0 in
-    let sits0 = subst (λ (d : Cached). Sits f k (AtRest f d) (standing_of desk') q.list (owed_events f d (part k q.list) + own_costs_of k more.acts)) (sym now) did.stands.sits in
-    let sits = subst (λ (b : Bool). SitsAs b r k desk' more.acts q) kind sits0 in
-    let kept : OthersKept k p q = kept_by_moves moves0 did.caches (λ j ne. ap (λ (bs : ℕ → List Guard). bs j) did.books) in
+    let kind = le-leb k r.threads within in
+    let kept : OthersKept k p q = kept_by_moves did.moves did.caches (λ j ne. ap (λ (bs : ℕ → List Guard). bs j) did.books) in
     let change = owed_moves r.threads f p q k kept (r.threads + r.keepers) some all in
     let least = owed_at r.threads f p k (r.threads + r.keepers) some all in
     let mine = thread_owes r.threads f p k within in
     let then_mine = thread_owes r.threads f q k within in
     let longer = ap (λ (rs : List Record). length rs) added ∙ length-append (records_in out1) told in
     let many = length-set caches (k - 1) cache ∙ at.many in
-    let their_caches = set_caches caches k cache some most now did.caches at.caches_are in
+    let their_caches : AreCaches q.caches (set caches (k - 1) cache)
+    = set_at_place (λ j c. p.caches j ≡ cached c) _ caches k cache some most now (λ j c ne held. did.caches j ne ∙ held) at.caches_are in
     let their_books = subst (λ (bs : ℕ → List Guard). HaveBooks r.threads bs books) (sym did.books) at.books_are in
     let their_places = still_places r.threads books (first ++ more.acts) more.acts (less_tries first more.acts) at.books_have in
     let own = added ∙ ap (λ (rs : List Record). rs ++ told) did.pushed ∙ append_assoc (records_in out) did.own told in
@@ -627,8 +511,8 @@ thread_turn {r} {first} {more} {desk0} {desk} {desk'} {passes0} {passes} {caches
       shows = acts_shown f first p q did.reaches;
       reaches = λ s rest. goes_both r.threads f indexes first more.acts p q s did.reaches named (rested (all_rest at)
           (rest_first r.threads f more.acts q s rest.0.0 rest.1)) (subst (λ (ix : Indexes). GoesBy r.threads f ix more.acts q s) after rest);
-      moves = moves;
-      sits = sits;
+      moves = rw (kind, was, now) did.moves;
+      sits = rw (kind, now) did.stands.sits;
       kept = kept;
       free = λ j ne. less_events r.threads f first more.acts j;
     } (assumption (many, their_caches, their_books, their_places, said, room ∙ did.room ∙ at.size))

@@ -18,11 +18,11 @@ use pas_acts::at_desk::SCAVENGER;
 use pas_acts::{at_desk, keepers, turns};
 use pas_answers::Remake;
 use pas_answers::names::Names;
-use pas_cache::ThreadCache;
+use pas_cache::{Moved, ThreadCache};
 use pas_guard::GuardBook;
-use pas_large::{LargeIndex, PlainDoor};
+use pas_large::{Door, LargeIndex, PlainDoor};
 use pas_plain::{PlainDesk, PlainPass, PlainRegion};
-use pas_profile::Block;
+use pas_profile::{Block, NoRoom};
 use pas_records::{Record, Records, Said};
 use pas_steps::Desk;
 use pas_trace::Task;
@@ -183,8 +183,8 @@ fn settle(actors: &mut Actors, actor: u8)
 
 /// The thread of this number does the task, and what its name came to is kept. A request for whole pages asks the indexes, and they take the runs of large blocks
 /// that its cache noted. This answers each operation of the thread that asks for the task, and that no keeper answers. All its code stands in line, in three
-/// places: those two kinds of tasks that are the most by far have one each, which no longer asks what the task is.
-#[inline(always)]
+/// places: those two kinds of tasks that are the most by far have one each (`Own`), which no longer asks what the task is.
+#[inline]
 fn serve<M: Remake>(
     desk: &mut PlainDesk,
     actors: &mut Actors,
@@ -206,6 +206,32 @@ fn serve<M: Remake>(
     let meant = freed(names, task);
     let came = operate_by(desk, &mut actors.indexes, cache, remaker, task, meant, out);
     keep(names, task, came);
+}
+
+/// What gives blocks another size, as it is handed to the code that answers operations of one kind alone. That code, from `serve` down, is compiled for each type
+/// that it is handed, and so each kind has its own, which is called at one place and put in line there: the kit leaves `#[inline(always)]` out of a function that
+/// grows very large, as this does, and what is called at three places would stay out of line then, and ask what the task is.
+#[derive(Clone, Copy, Drop)]
+struct Own<'a, M, const KIND: usize> {
+    remaker: &'a M,
+}
+
+const REQUESTS: usize = 0;
+
+const FREES: usize = 1;
+
+impl<M: Remake, const KIND: usize> Remake for Own<'_, M, KIND> {
+    fn remake<D: Desk, O: Door>(
+        &self,
+        cache: &mut ThreadCache,
+        desk: &mut D,
+        door: &mut O,
+        old: Block,
+        size: u32,
+        align: u32,
+    ) -> Result<Moved, NoRoom> {
+        self.remaker.remake(cache, desk, door, old, size, align)
+    }
 }
 
 /// The thread of this number makes a request, as `serve` does.
@@ -237,7 +263,8 @@ pub(crate) fn serve_request<M: Remake>(
         size,
         align,
     };
-    serve(desk, actors, names, remaker, actor, task, out);
+    let own: Own<'_, M, REQUESTS> = Own { remaker };
+    serve(desk, actors, names, &own, actor, task, out);
 }
 
 /// The thread of this number frees the block that the name stands for, as `serve` does.
@@ -261,7 +288,8 @@ pub(crate) fn serve_free<M: Remake>(
         (session desk.old actors.old names.old out.old) (session desk.new actors.new names.new out.new) }
 {
     let task = Task::Free { name, room: None };
-    serve(desk, actors, names, remaker, actor, task, out);
+    let own: Own<'_, M, FREES> = Own { remaker };
+    serve(desk, actors, names, &own, actor, task, out);
 }
 
 /// The thread of this number does a task of whatever kind, as `serve` does.

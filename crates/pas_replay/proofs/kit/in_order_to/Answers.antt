@@ -1,7 +1,7 @@
 use Rattle.std.proofs.{Common.{All, refl, sym, subst, arith, List}, lemmas.List.Elements.All-nil}
-use Rattle.pas_replay.proofs.{Common.{profile_of, PassStands, PlainPass, plan_operate, plan_fit, names_held, phases_of, replay_of, room_of}, InOrder.list_in}
-use Rattle.pas_replay.proofs.InOrder.{start, shows}
-use Rattle.pas_acts.proofs.PlanFacts.{plan_phases, plan_valid}
+use Rattle.pas_replay.proofs.Common.{profile_of, PassStands, PlainPass, plan_operate, plan_fit, names_held, phases_of, replay_of, room_of, plan_valid}
+use Rattle.pas_replay.proofs.InOrder.{list_in, start, shows}
+use Rattle.pas_acts.proofs.PlanFacts.{plan_phases}
 use Rattle.pas_trace.proofs.Keepers.{keepers_few}
 use Rattle.pas_replay.proofs.kit.in_order_to.Goals as goal
 

@@ -1,13 +1,13 @@
-use Rattle.std.proofs.Common.{◌≤◌, ◌∙◌, ◌++◌, List, [], drop_of_length-le, refl, ap, arith, length, get_or}
-use Rattle.pas_replay.proofs.{Common.{length-map, acts_of_ops, unlined, Op, idle_in, session, telling}, InOrder.{as_between, can_show, none_told, op_next}}
-use Rattle.pas_replay.proofs.InOrder.{past, place_in, said_at, taken_on}
+use Rattle.std.proofs.Common.{append-nil, sym, ◌≤◌, ◌∙◌, ◌++◌, List, [], drop_of_length-le, refl, ap, arith, length, get_or}
+use Rattle.pas_replay.proofs.{Common.{length-map, acts_of_ops, unlined, Op, idle_in, session, telling}, InOrder.{as_between, can_show, as_told, op_next, past}}
+use Rattle.pas_replay.proofs.InOrder.{place_in, said_at, taken_on}
 use Rattle.pas_replay.proofs.order.perform_all.Goals as goal
 
 pub loop-place-init : goal.loop-place-init
 loop-place-init g c = record {
   told = [];
   took = g.met.T.Takes.nothing c.args.taker.now;
-  far = λ ops is r more btw. none_told g.T.Takes.waits r _ (session c.args.desk.now c.args.actors.now c.args.names.now c.args.out.now) btw;
+  far = λ ops is r more btw. as_told g.T.Takes.waits r _ (session c.args.desk.now c.args.actors.now c.args.names.now c.args.out.now) (sym (append-nil r.told)) btw;
   threads = refl;
 }
 

@@ -1,5 +1,5 @@
 use Rattle.std.proofs.Common.{◌≡◌, ◌∙◌, ℕ, ap, sym, arith}
-use Rattle.pas_replay.proofs.{Common.{unlined, Op, Work, idle_in}, InOrder.as_first, ByActors.{acts_by_work, own_actor}}
+use Rattle.pas_replay.proofs.{Common.{unlined, Op, Work, idle_in}, InOrder.as_first, ByActors.acts_by_work}
 use Rattle.pas_trace.specs.declared.plan.Chore.{Chore}
 use Rattle.pas_answers.proofs.SingleActs.{own_what}
 use Rattle.pas_replay.proofs.order.perform_any.Goals as goal
@@ -27,7 +27,7 @@ same_what : (op said : Op) → unlined op ≡ unlined said → op.what ≡ said.
 same_what op said same = ap (λ (o : Op). o.what) same
 
 pub operate-requires : goal.operate-requires
-operate-requires g c = search (arith, as_first, acts_by_work, own_actor, same_what, own_what)
+operate-requires g c = search (arith, as_first, acts_by_work, same_what, own_what)
 
 pub returns-in-Own-clause-so_far : goal.returns-in-Own-clause-so_far
 returns-in-Own-clause-so_far g c op same r more so =

@@ -1,10 +1,10 @@
-use Rattle.std.proofs.Common.{◌≡◌, ◌+◌, ◌≤◌, ◌++◌, ◌∙◌, ℕ, List, [], ◌∷◌, length, Option, MatchOption, refl, sym, subst, ap, arith, drop, map, ◌<◌, get_or}
+use Rattle.std.proofs.Common.{append-nil, append_assoc, ◌≡◌, ◌+◌, ◌≤◌, ◌++◌, ◌∙◌, ℕ, List, [], ◌∷◌, length, Option, MatchOption, refl, sym, subst, ap, arith}
+use Rattle.std.proofs.Common.{drop, map, ◌<◌, get_or}
 use Rattle.pas_replay.proofs.Common.{Op, Act, MarksPhase, Wakes, Ends, Lowers, acts_of_ops, numbers_from, phase_acts, is_active, unlined, without_lines, Replay}
 use Rattle.pas_replay.proofs.Common.{Left, Session, SoFarAt, hand_of, session, telling, upon, Begins, Between, left_between, awake_in, idle_in, acts_left}
 use Rattle.pas_replay.proofs.{Common.{is_set, records_in, room_of, Records, Record}, Turning.may_sit, order.replay.{Given.Over, Goals.then-number-gt-UNMARKED}}
 use Rattle.pas_replay.proofs.{order.replay.Goals.{else-number-gt-UNMARKED, After-push-2, After-active_in-awake}, InOrder.{as_hand, after_mark, wakes_first}}
-use Rattle.pas_replay.proofs.InOrder.{as_between, can_show, close_next, mark_next, marked, none_told, taken_on, told_then, wakes_next, list_at, list_in}
-use Rattle.pas_replay.proofs.InOrder.{same_active}
+use Rattle.pas_replay.proofs.InOrder.{as_between, can_show, close_next, mark_next, marked, as_told, taken_on, wakes_next, list_at, list_in, same_active}
 use Rattle.pas_acts.proofs.ActsLeft.{first_phase, other_phase, next_list, no_list}
 use Rattle.pas_replay.proofs.order.replay.Goals as goal
 
@@ -17,7 +17,7 @@ loop-phase-init g c =
     record {
       told = [];
       took = g.met.T.Takes.nothing c.args.taker.now;
-      far = λ lists same r begins. none_told g.T.Takes.waits r _ s (as_between g.T.Takes.waits r s begins.0
+      far = λ lists same r begins. as_told g.T.Takes.waits r _ s (sym (append-nil r.told)) (as_between g.T.Takes.waits r s begins.0
           ((c.sit-desk.ensures.taken, as_hand (c.sit-desk.ensures.hand c.args.names.now c.args.out.now) begins.1), begins.2));
       count = refl;
       threads = ap (λ v. length v.items) c.sit-desk.ensures.caches;
@@ -25,17 +25,15 @@ loop-phase-init g c =
 
 pub push-requires : goal.push-requires
 push-requires g c =
-    let waits = g.T.Takes.waits in
     let so0 = c.requires.so_far in
     let at = c.loop-phase.invariant in
     let i = c.loop-phase.phase-index in
-    let lists = so0.0 in
     let r = telling so0.2 at.told in
     let s = session c.loop-phase.desk c.loop-phase.actors c.loop-phase.names c.loop-phase.out in
-    let lt : i < length lists = omega (arith, c.loop-phase-test.true, list_in g.P.Operations.ops c.args.phases.now so0.0 so0.1) in
-    let far = as_between waits r s (next_list r.threads r.keepers lists i lt
-    ∙ other_phase r.threads r.keepers i (get_or lists i []) (drop (i + 1) lists) (omega (arith, at.count, c.if-number-gt-UNMARKED.true))) (at.far lists so0.1 so0.2 so0.3) in
-    let spare = (mark_next waits r s _ (MarksPhase (i + 1)) refl far).1.1.spare in
+    let lt : i < length so0.0 = omega (arith, c.loop-phase-test.true, list_in g.P.Operations.ops c.args.phases.now so0.0 so0.1) in
+    let far = as_between g.T.Takes.waits r s (next_list r.threads r.keepers so0.0 i lt ∙ other_phase r.threads r.keepers i (get_or so0.0 i [])
+    (drop (i + 1) so0.0) (omega (arith, at.count, c.if-number-gt-UNMARKED.true))) (at.far so0.0 so0.1 so0.2 so0.3) in
+    let spare = (mark_next g.T.Takes.waits r s _ (MarksPhase (i + 1)) refl far).1.1.spare in
     omega (arith, spare)
 
 -- ---- a phase begins
@@ -93,24 +91,19 @@ module _ (g : Over) (c : After-active_in-awake g) (lists : List (List Op)) (same
               (first_phase r.threads r.keepers i ops rest (omega (arith, count, w.if-number-gt-UNMARKED.false))) far).0
         ]
 
-    -- the taker took the first ones, and its threads wake next
-    woken : (first : List Record) (out : Records) → records_in c.if-number-gt-UNMARKED.out ≡ first ++ records_in out
-        → room_of out ≡ room_of c.if-number-gt-UNMARKED.out
-        → MatchOption waits (Unit {0}) (λ most. length (records_in out) ≤ most)
-        → Between waits (telling r (so_far ++ first)) (map Wakes (awake_in c.active_in-awake.result r.threads) ++ awoken)
-        (session c.loop-phase.desk c.loop-phase.actors c.loop-phase.names out)
-    woken first out parts size few = as_between waits (telling r (so_far ++ first)) (session c.loop-phase.desk c.loop-phase.actors c.loop-phase.names out)
-        (wakes_first r.threads c.active_in-awake.result ops later active)
-        (taken_on waits r _ now c.loop-phase.out so_far first out parts size few (c.loop-phase.invariant.far lists same r begins).1 begun)
+    module _ (first : List Record) (out : Records) (parts : records_in c.if-number-gt-UNMARKED.out ≡ first ++ records_in out)
+        (size : room_of out ≡ room_of c.if-number-gt-UNMARKED.out) (few : MatchOption waits (Unit {0}) (λ most. length (records_in out) ≤ most)) where
+      abbrev taken : Session
+      taken = session c.loop-phase.desk c.loop-phase.actors c.loop-phase.names out
 
-    -- The record of the phase was written before its acts.
-    waking : (first : List Record) (out : Records) → records_in c.if-number-gt-UNMARKED.out ≡ first ++ records_in out
-        → room_of out ≡ room_of c.if-number-gt-UNMARKED.out
-        → MatchOption waits (Unit {0}) (λ most. length (records_in out) ≤ most)
-        → SoFarAt (telling r (so_far ++ first)) (upon r (map Wakes (awake_in c.active_in-awake.result r.threads)) (left_between waits r awoken))
-        (session c.loop-phase.desk c.loop-phase.actors c.loop-phase.names out)
-    waking first out parts size few =
-        search (arith, wakes_next, woken)
+      -- the taker took the first ones, and its threads wake next
+      woken : Between waits (telling r (so_far ++ first)) (map Wakes (awake_in c.active_in-awake.result r.threads) ++ awoken) taken
+      woken = as_between waits (telling r (so_far ++ first)) taken (wakes_first r.threads c.active_in-awake.result ops later active)
+          (taken_on waits r _ now c.loop-phase.out so_far first out parts size few (c.loop-phase.invariant.far lists same r begins).1 begun)
+
+      -- The record of the phase was written before its acts.
+      waking : SoFarAt (telling r (so_far ++ first)) (upon r (map Wakes (awake_in c.active_in-awake.result r.threads)) (left_between waits r awoken)) taken
+      waking = wakes_next waits (telling r (so_far ++ first)) taken (awake_in c.active_in-awake.result r.threads) awoken woken
 
 pub take-requires : goal.take-requires
 take-requires g c = let so0 = c.requires.so_far in record { shown = can_show (begun g (goal.at.take-requires g c).After-active_in-awake so0.0 so0.1 so0.2 so0.3).1 }
@@ -119,15 +112,10 @@ pub wake_all-requires-clause-so_far : goal.wake_all-requires-clause-so_far
 wake_all-requires-clause-so_far g c =
     let d = (goal.at.wake_all-requires-clause-so_far g c).After-active_in-awake in
     let so0 = c.requires.so_far in
-    let first = c.take.ensures.taken in (
-      c.loop-phase.names,
-      c.take.new.out,
-      (
-        telling so0.2 (c.loop-phase.invariant.told ++ first.0),
-        left_between g.T.Takes.waits so0.2 (awoken g d so0.0 so0.1 so0.2 so0.3),
-        waking g d so0.0 so0.1 so0.2 so0.3 first.0 c.take.new.out first.1 c.take.ensures.size c.take.ensures.few,
-      ),
-    )
+    let first = c.take.ensures.taken in
+    let more = left_between g.T.Takes.waits so0.2 (awoken g d so0.0 so0.1 so0.2 so0.3) in
+    let may = waking g d so0.0 so0.1 so0.2 so0.3 first.0 c.take.new.out first.1 c.take.ensures.size c.take.ensures.few in
+    (c.loop-phase.names, c.take.new.out, (telling so0.2 (c.loop-phase.invariant.told ++ first.0), more, may))
 
 pub perform_all-requires-clause-so_far : goal.perform_all-requires-clause-so_far
 perform_all-requires-clause-so_far g c =
@@ -141,7 +129,6 @@ perform_all-requires-clause-so_far g c =
 
 pub loop-phase-preserved : goal.loop-phase-preserved
 loop-phase-preserved g c =
-    let waits = g.T.Takes.waits in
     let d = (goal.at.loop-phase-preserved g c).After-active_in-awake in
     let at = c.loop-phase.invariant in
     let first = c.take.ensures.taken in
@@ -155,7 +142,7 @@ loop-phase-preserved g c =
           let more = later g d lists same r begins in
           let woke = c.wake_all.ensures.so_far c.loop-phase.names _ q _ (waking g d lists same r begins first.0 _ first.1 c.take.ensures.size c.take.ensures.few) in
           let few = (woken g d lists same r begins first.0 c.take.new.out first.1 c.take.ensures.size c.take.ensures.few).1 in
-          told_then waits r more after (at.told ++ first.0) done.0
+          as_told g.T.Takes.waits r more after (append_assoc r.told (at.told ++ first.0) done.0)
           (done.2 (ops g d lists same r begins) (as_listed g d lists same r begins) q more (woke, few));
       count = ap (λ n. n + 1) at.count;
       threads = c.perform_all.ensures.threads ∙ c.wake_all.ensures.threads ∙ at.threads;

@@ -7,7 +7,7 @@ abbrev pub invariant-loop-index : goal.invariant-loop-index
 invariant-loop-index l = record {
   far : (table : Names) (r : Replay) (more : Left)
       → SoFarAt r (upon r (map Ends (numbers_from 1 r.threads)) more) (session l.fn.desk l.fn.actors table l.fn.out)
-      → SoFarAt r (upon r (map Ends (numbers_from (l.index + 1) (r.threads - l.index))) more) (session l.desk l.actors table l.out);
+      → SoFarAt r (upon r (map Ends (numbers_from (1 + l.index) (r.threads - l.index))) more) (session l.desk l.actors table l.out);
   threads : length l.actors.caches.items ≡ length l.fn.actors.caches.items;
   empty : (j : ℕ) (d : ThreadCache) → j < l.index → (cached (get_or l.actors.caches.items j d)).locals ≡ [];
 }

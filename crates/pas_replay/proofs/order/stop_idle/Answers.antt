@@ -1,14 +1,8 @@
-use Rattle.std.proofs.Common.{◌≡◌, ◌<◌, ◌≤◌, ◌∙◌, ◌-◌, ℕ, Bool, not, ap, sym, arith}
-use Rattle.pas_replay.proofs.{Common.{filter, is_set, Mask4, Act, StopsIdle, numbers_from, idle_stops, upon}, InOrder.{as_read, chosen_next, passed_next}}
-use Rattle.pas_replay.proofs.{InOrder.none_next, order.stop_idle.Goals.{then-not-get, else-not-get}}
+use Rattle.std.proofs.Common.{◌≡◌, ◌<◌, ◌≤◌, ◌∙◌, ◌-◌, ℕ, not, ap, sym, arith}
+use Rattle.pas_replay.proofs.{Common.{filter, is_set, numbers_from, idle_stops, upon}, InOrder.{as_read, chosen_next, passed_next, none_next}}
+use Rattle.pas_replay.proofs.order.stop_idle.Goals.{then-not-get, else-not-get}
+use Rattle.pas_trace.specs.Acts.{StopsIdle}
 use Rattle.pas_replay.proofs.order.stop_idle.Goals as goal
-
--- the stop of a thread, and which threads it is for
-abbrev stop : ℕ → ℕ → Act
-stop epochs k = StopsIdle k epochs
-
-abbrev idle : Mask4 → ℕ → Bool
-idle awake k = not (is_set awake k)
 
 pub read_epoch-epoch-requires : goal.read_epoch-epoch-requires
 read_epoch-epoch-requires c = let so0 = c.requires.so_far in record { so_far = (so0.0, c.args.out.now, (so0.1.0, _, so0.1.2)) }
@@ -17,7 +11,7 @@ pub loop-index-init : goal.loop-index-init
 loop-index-init c = record {
   far = λ table r more so.
       let all_left : r.threads ≡ r.threads - 0 = omega arith in
-      as_read (ap (λ (m : ℕ). upon r (idle_stops c.args.epochs (filter (idle c.args.awake) (numbers_from 1 m))) more) all_left)
+      as_read (ap (λ (m : ℕ). upon r (idle_stops c.args.epochs (filter (λ k. not (is_set c.args.awake k)) (numbers_from 1 m))) more) all_left)
       (c.read_epoch-epoch.ensures.so_far table c.args.out.now r _ so);
   threads = c.read_epoch-epoch.ensures.threads;
 }
@@ -32,7 +26,7 @@ stop_if_idle-requires-clause-so_far c =
     let s = c.requires.so_far.1 in
     let lt : c.loop-index.index < s.0.threads = omega (arith, c.loop-index-test.true, c.len-threads.ensures, s.2.1.1.many) in
     let on = ap not (sym c.get.ensures ∙ c.if-not-get.true) in
-    let chosen = chosen_next s.0 (stop c.args.epochs) (idle c.args.awake) c.loop-index.index s.0.threads s.1 lt on in
+    let chosen = chosen_next s.0 (λ k. StopsIdle k c.args.epochs) (λ k. not (is_set c.args.awake k)) c.loop-index.index s.0.threads s.1 lt on in
     (table, (s.0, _, as_read chosen (c.loop-index.invariant.far table s.0 s.1 s.2)))
 
 pub loop-index-preserved : goal.loop-index-preserved
@@ -42,7 +36,7 @@ loop-index-preserved c = elim c.if-not-get.branch [
       rw (w.desk-is, w.actors-is, w.out-is) (record {
         far = λ table r more so.
             let lt : c.loop-index.index < r.threads = omega (arith, c.loop-index-test.true, c.len-threads.ensures, so.1.1.many) in
-            let chosen = chosen_next r (stop c.args.epochs) (idle c.args.awake) c.loop-index.index r.threads more lt on in
+            let chosen = chosen_next r (λ k. StopsIdle k c.args.epochs) (λ k. not (is_set c.args.awake k)) c.loop-index.index r.threads more lt on in
             w.stop_if_idle.ensures.so_far table r _ (as_read chosen (c.loop-index.invariant.far table r more so));
         threads = w.stop_if_idle.ensures.threads ∙ c.loop-index.invariant.threads;
       })
@@ -51,7 +45,7 @@ loop-index-preserved c = elim c.if-not-get.branch [
       rw (w.desk-is, w.actors-is, w.out-is) (record {
         far = λ table r more so.
             let lt : c.loop-index.index < r.threads = omega (arith, c.loop-index-test.true, c.len-threads.ensures, so.1.1.many) in
-            let passed = passed_next r (stop c.args.epochs) (idle c.args.awake) c.loop-index.index r.threads more lt off in
+            let passed = passed_next r (λ k. StopsIdle k c.args.epochs) (λ k. not (is_set c.args.awake k)) c.loop-index.index r.threads more lt off in
             as_read passed (c.loop-index.invariant.far table r more so);
         threads = c.loop-index.invariant.threads;
       })
@@ -60,5 +54,5 @@ loop-index-preserved c = elim c.if-not-get.branch [
 pub returns-clause-so_far : goal.returns-clause-so_far
 returns-clause-so_far c table r more so =
     let past : r.threads ≤ c.loop-index.index = omega (arith, c.loop-index-test.false, c.len-threads.ensures, so.1.1.many) in
-    let last = as_read (none_next r _ (idle c.args.awake) c.loop-index.index r.threads more past) (c.loop-index.invariant.far table r more so) in
+    let last = as_read (none_next r _ (λ k. not (is_set c.args.awake k)) c.loop-index.index r.threads more past) (c.loop-index.invariant.far table r more so) in
     (last.0, (last.1, last.2))

@@ -1,7 +1,7 @@
 -- the idle threads so far were stopped, where they were idle for so many epochs
 use Rattle.std.proofs.Common.{◌≡◌, ◌+◌, ◌-◌, not, ◌∷◌, length}
-use Rattle.pas_replay.proofs.Common.{filter, is_set, ReadsEpoch, numbers_from, idle_stops, Names, idle_in, Replay, Left, SoFarAt, session, upon}
-use Rattle.pas_replay.specs.Sessions.{HasRead}
+use Rattle.pas_replay.{proofs.Common.{filter, is_set, numbers_from, idle_stops, Names, idle_in, Replay, Left, SoFarAt, session, upon}, specs.Sessions.HasRead}
+use Rattle.pas_trace.specs.Acts.{ReadsEpoch}
 use Rattle.pas_replay.proofs.order.stop_idle.Given as goal
 
 abbrev pub invariant-loop-index : goal.invariant-loop-index

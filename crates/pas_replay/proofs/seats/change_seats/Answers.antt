@@ -1,5 +1,5 @@
-use Rattle.std.proofs.Common.{None, Some, ap, sym, ◌∙◌, subst, set}
-use Rattle.pas_replay.proofs.{Common.{get_or_default, same_Some, actor_of, PlainPass, ChangesSeats}, Turning.{pass_there, seats_changed}}
+use Rattle.std.proofs.{lemmas.List.set_comm, Common.{arith, set-set, get_or-set_other, None, Some, ap, sym, ◌∙◌}}
+use Rattle.pas_replay.proofs.Common.{set-get_or, get_or_default, same_Some, actor_of, pass_of}
 use Rattle.pas_replay.proofs.seats.change_seats.Goals as goal
 
 pub returns : goal.returns
@@ -8,6 +8,8 @@ returns c =
     let k = c.args.actor in
     let may = c.requires.may in
     let has = sym (c.take.ensures.value ∙ c.index_mut.ensures.value ∙ get_or_default passes k c.index_mut.result.now None may.place) ∙ c.in-Some.is in
-    let own = same_Some _ _ (sym has ∙ pass_there c.args.desk.now passes k c.requires.other may) in
-    subst (λ (p : PlainPass). ChangesSeats c.args.desk.now c.replace-risen.new.self passes (set (set passes k c.take.new.self) c.actor-place.result (Some p)) k) (sym c.replace-risen.ensures.risen)
-    (seats_changed k c.actor-place.result c.take.new.self c.actor-place.ensures c.requires.other has (ap actor_of own ∙ may.own.actor_is) c.replace-risen.ensures.region c.replace-risen.ensures.pass)
+    let there = get_or-set_other passes (actor_of (pass_of c.args.desk.now)) k (Some (pass_of c.args.desk.now)) None (λ e. c.requires.other (sym e)) in
+    let own = same_Some _ _ (sym has ∙ sym there ∙ may.own.present) in
+    let actor = ap actor_of own ∙ may.own.actor_is in
+    -- the desk has the actor's pass, and the one before has its own back
+    search (arith, set_comm, set-set, set-get_or)
