@@ -1,23 +1,19 @@
 -- Actors on a bench: they sit down with their passes, stand still while another one acts, and leave; and a thread with its keeper on the bench of both.
 use Rattle.std.proofs.Common.{arith, ◌≡◌, ◌≢◌, ℕ, Bool, true, if◌then◌else◌, inl, inr, List, [], ◌∷◌, ◌++◌, refl, ap, sym, ◌∙◌, subst, append-nil, eq-eqb}
-use Rattle.std.proofs.{Common.{ne_eqb, true≢false, ◌+◌, Option, Some, None, ⊎_elim, ◌⊎◌}, lemmas.{Option.same_Some, Bool.cases_eq}}
-use Rattle.pas_steps.specs.{Calls.Calls, Noted.room_of_notes, Desks.{triple, Standing, triples}, Lists.{Whole, part}, Views.View, declared.step.Made.Made}
-use Rattle.pas_steps.proofs.Parts.{part_of_others, part_of_own}
-use Rattle.pas_profile.specs.declared.profile.Profile.{Profile}
-use Rattle.pas_core.proofs.Choosing.{part_of_chosen}
-use Rattle.pas_shared.specs.Ruled.{among, made_in, rows_of, rows_of_only, isnt, only_this, all_actors, steps_of, IsRowOf, AreRowsOf, HasRow, entries_by}
-use Rattle.pas_shared.specs.Benches.{rows_on, first_row, row_on, seat_of_member, IsBenchOf, IsMemberOf, IsFreshRow, HasLooked, SitsInRow, MaySitOn, StandsOver}
-use Rattle.pas_shared.specs.{Benches.{standing_on, empty_row, home_of}, Ledgers.part_of, Passes.{seat_of, view_of, IsPassOf}, declared.bench.Bench.Bench}
-use Rattle.pas_shared.specs.declared.{bench.Member.Member, pass.SharedPass.SharedPass, region.SharedRegion.SharedRegion, rule.{Entry.Entry, Row.Row}}
-use Rattle.pas_shared.{specs.declared.bench_desk.BenchDesk.BenchDesk, proofs.{Benching.{among_picked, stands_first, row_since}, Ruling.part_both}}
-use Rattle.pas_acts.specs.{Works.{Later, Sits, Keeps, ThreadAt}, Keepers.{keeper_has, KeeperAt, LaterKept, StandsStill, Keeping, KeeperTries, StandsAt}}
-use Rattle.pas_acts.specs.Pairs.{KeeperWaits, PairWorks, PairAt}
-use Rattle.pas_threads.specs.{Left.{KeepsOrder, keeper_actors, pair_in, HasLeft, IsSeated, standing_beside}, Hands.{standing_of_pass, HasPass, Did, kept_by}}
-use Rattle.pas_threads.specs.{declared.{keeper.{Seated.Seated, Keeper.Keeper}, workers.Worker.Worker}, Pairs.{IsKeeperOf, kept_by_worker, kept_seated}}
-use Rattle.pas_threads.specs.{Pairs.MayDoPhase, Seats.{keeper_parts, seated_actors, PairSits, PairRose, IsAnother, KeeperSits, rows_without_keeper}}
-use Rattle.pas_threads.specs.{Seats.{IsSameKeeper, SitsBeside, KeeperMayLeave, IsPassOfMember, HasRisen, PairMayRise}, Still.stays_beside}
-use Rattle.pas_answers.{specs.{Answers.Progress, Guarding.after_trying}, proofs.Reached.goes_on}
-use Rattle.pas_trace.specs.Acts.{Act, own_acts}
+use Rattle.std.proofs.Common.{ne_eqb, true≢false, ◌+◌, Option, Some, None, ⊎_elim, ◌⊎◌}
+use Rattle.pas_threads.proofs.Common.{same_Some, cases_eq, Standing, triples, Whole, part, View, part_of_others, Profile, part_of_chosen, among, made_in}
+use Rattle.pas_threads.proofs.Common.{rows_of, rows_of_only, isnt, only_this, all_actors, steps_of, IsRowOf, AreRowsOf, HasRow, rows_on, first_row, row_on}
+use Rattle.pas_threads.proofs.Common.{seat_of_member, IsBenchOf, IsMemberOf, HasLooked, SitsInRow, MaySitOn, StandsOver, standing_on, empty_row, part_of}
+use Rattle.pas_threads.proofs.Common.{seat_of, view_of, IsPassOf, Bench, Member, SharedPass, SharedRegion, Entry, Row, BenchDesk, among_picked, stands_first}
+use Rattle.pas_threads.proofs.Common.{Later, keeper_has, KeeperAt, LaterKept, StandsStill, Keeping, KeeperWaits, PairWorks, KeepsOrder, keeper_actors, pair_in}
+use Rattle.pas_threads.proofs.Common.{HasLeft, standing_of_pass, HasPass, Did, kept_by, Seated, Keeper, Worker, IsKeeperOf, kept_by_worker, kept_seated}
+use Rattle.pas_threads.{proofs.Common.{MayDoPhase, keeper_parts, PairSits, Progress, goes_on, Act, own_acts}, specs.Left.{IsSeated, standing_beside}}
+use Rattle.pas_threads.specs.Seats.{seated_actors, PairRose, IsAnother, KeeperSits, rows_without_keeper, IsSameKeeper, SitsBeside, KeeperMayLeave}
+use Rattle.pas_threads.specs.{Seats.{IsPassOfMember, HasRisen, PairMayRise}, Still.stays_beside}
+use Rattle.pas_steps.{specs.{Calls.Calls, Noted.room_of_notes, Desks.triple}, proofs.Parts.part_of_own}
+use Rattle.pas_shared.{specs.{Ruled.entries_by, Benches.{IsFreshRow, home_of}}, proofs.{Benching.row_since, Ruling.part_both}}
+use Rattle.pas_acts.specs.{Works.{Sits, Keeps, ThreadAt}, Keepers.{KeeperTries, StandsAt}, Pairs.PairAt}
+use Rattle.pas_answers.specs.Guarding.{after_trying}
 
 -- ---- what rows say of a list
 -- of each of its actors the list has what the row says
@@ -73,9 +69,8 @@ pub member_seat : {pass : SharedPass} {member : Member} → IsMemberOf pass memb
 member_seat m = λ i. record { actor = m.actor i; profile = m.profile i; room = room_of_notes (m.notes i) }
 
 -- .. and in one row with the others, once the bench looked
-pub sat : {region : SharedRegion} (b now : Bench) (pass : SharedPass) (member : Member) → IsPassOf region pass → IsMemberOf pass member → IsBenchOf region now
-    → HasLooked (rows_on b) (rows_on now)
-    → HasRow (rows_on b) pass.place.actor (view_of pass) → IsSeated region now pass member
+pub sat : {region : _} (b now : Bench) (pass : SharedPass) (member : Member) → IsPassOf region pass → IsMemberOf pass member → IsBenchOf region now
+    → HasLooked (rows_on b) (rows_on now) → HasRow (rows_on b) pass.place.actor (view_of pass) → IsSeated region now pass member
 sat {region} b now pass member of m bench looked has = search (arith, rows_part, sits_among)
 
 -- what is so of a desk at which an actor sits is so of another one that it has for it
@@ -85,8 +80,7 @@ pub sits_as : {f : Profile} {k : ℕ} {Rest : View → Type 0} {σ τ : Standing
 sits_as {k = k} {l = l} {need} seat to s = search arith
 
 -- .. and what was done there is so of it
-pub calls_as : {σ σ' τ τ' : Standing} {Before : View → Type 0} {Change : View → View → Type 0} {steps : List Made} → τ.seat ≡ σ.seat → τ'.seat ≡ σ'.seat
-    → ((v : View) (l : Whole) → τ.stands v l → σ.stands v l)
+pub calls_as : {σ σ' τ τ' : Standing} {Before Change steps : _} → τ.seat ≡ σ.seat → τ'.seat ≡ σ'.seat → ((v : View) (l : Whole) → τ.stands v l → σ.stands v l)
     → ((v : View) (l : Whole) → σ'.stands v l → τ'.stands v l) → Calls σ σ' Before Change steps → Calls τ τ' Before Change steps
 -- What the call adds is the same at the same seats, and what stood there stands there by `from` and `to`.
 calls_as {σ} {σ'} {τ} {τ'} {Before} {Change} {steps} one two from to calls = search arith
@@ -138,9 +132,8 @@ pub seated : {region : SharedRegion} {slot : Option SharedPass} (At : Standing �
 seated {region} {slot} At pass is has at = subst (λ (x : SharedPass). At (standing_of_pass x)) (same_Some _ _ (sym has.present ∙ is)) at
 
 -- what it did with its pass
-pub rose : {region : SharedRegion} {slot : Option SharedPass} (Does : Standing → Standing → Type 0) (pass left after : SharedPass) → slot ≡ Some pass
-    → HasPass region slot → after ≡ left → IsPassOf region after
-    → Does (standing_of_pass pass) (standing_of_pass left) → Did region slot (Some after) Does
+pub rose : {region slot : _} (Does : Standing → Standing → Type 0) (pass left after : SharedPass) → slot ≡ Some pass → HasPass region slot → after ≡ left
+    → IsPassOf region after → Does (standing_of_pass pass) (standing_of_pass left) → Did region slot (Some after) Does
 rose {region} {slot} Does pass left after is has same of does = record {
   before = record { pass = pass; present = is; of = subst (IsPassOf region) (same_Some _ _ (sym has.present ∙ is)) has.of };
   after = record { pass = after; present = refl; of = of };
@@ -212,12 +205,9 @@ module _ {f k r block later p book out : _} (desk lent after : BenchDesk) (seate
 seated_beside : (region : SharedRegion) (keeper : Option Keeper) (seated : Option Seated) (b now : Bench) (r : Row) (rs : List Row) → IsSameKeeper keeper seated
     → IsKeeperOf region keeper → rows_on b ≡ r ∷ (rows_of (keeper_parts keeper) ++ rs)
     → IsBenchOf region now → HasLooked (rows_on b) (rows_on now) → SitsBeside region now keeper seated
-seated_beside region (Some keeper) (Some seated) b now r rs same of rows bench looked = (
-  sat b now keeper.pass seated.member of same.0 bench looked
-      (subst (λ qs. HasRow qs keeper.pass.place.actor (view_of keeper.pass)) (sym rows) (inr (has_seat keeper.pass rs))),
-  same.1,
-  same.2,
-)
+seated_beside region (Some keeper) (Some seated) b now r rs same of rows bench looked =
+    let has : HasRow (rows_on b) keeper.pass.place.actor (view_of keeper.pass) = rw rows (inr (has_seat keeper.pass rs)) in
+    (sat b now keeper.pass seated.member of same.0 bench looked has, same.1, same.2)
 seated_beside region _ _ b now r rs same of rows bench looked = same
 
 kept_actors : (keeper : Option Keeper) (seated : Option Seated) → IsSameKeeper keeper seated
@@ -236,13 +226,6 @@ pair_sat {region} pass keeper member seated b now of kept same rows thread bench
 base_part : (r : Row) (k : ℕ) → r.made ≡ [] → part k (steps_of r.base) ≡ made_in r k
 base_part r k none = sym (ap (λ es. part k (steps_of es ++ steps_of r.base)) none)
 
-of_either : (a j : ℕ) (seated : Option Seated) (P : ℕ → Type 0) → among (a ∷ seated_actors seated) j ≡ true → P a
-    → ((s : Seated) → seated ≡ Some s → P s.member.actor) → P j
-of_either a j None P its one other = ⊎_elim (λ is. subst P is one) (λ bad. absurd (true≢false (sym bad))) (among_cases a j [] its)
-of_either a j (Some s) P its one other = ⊎_elim (λ is. subst P is one)
-    (λ more. ⊎_elim (λ is. subst P is (other s refl)) (λ bad. absurd (true≢false (sym bad))) (among_cases s.member.actor j [] more))
-    (among_cases a j (s.member.actor ∷ []) its)
-
 module _ {region : SharedRegion} {pass : SharedPass} {keeper : Option Keeper} {bench : Bench} {member : Member} {seated : Option Seated}
     (sits : PairSits region pass keeper bench member seated)
     (f : Profile) (k j : ℕ) (acts : List Act) (has : Keeps) (later : Later) (more : LaterKept) (p : Progress)
@@ -256,7 +239,7 @@ module _ {region : SharedRegion} {pass : SharedPass} {keeper : Option Keeper} {b
 
   -- Each actor of the row has the part of the list that the row's base has of it.
   both_parts : (i : ℕ) → among (row_on bench).actors i ≡ true → part i p.list ≡ part i (steps_of (row_on bench).base)
-  both_parts i its = of_either member.actor i seated (λ n. part n p.list ≡ part n (steps_of (row_on bench).base)) (sym (ap (λ ns. among ns i) sits.actors) ∙ its) own_part (kept_part keeper sits.beside waits)
+  both_parts i its = search (arith, own_part, kept_part, among_cases, true≢false, seated)
 
   -- The list tells of the pair what their row tells, as nobody acted since the look.
   stand_over : StandsOver (row_on bench) p.list

@@ -1,28 +1,20 @@
 -- What the actors of all workers said in a phase, or at the close: in which order it is written, that it is paid for, and how the workers rest once it is gathered.
 use Rattle.std.proofs.Common.{◌≡◌, ℕ, suc, ◌+◌, ◌<◌, ◌≤◌, List, [], ◌++◌, length, get_or, ap, sym, ◌∙◌, arith, append_assoc, length-append, ◌∷◌, Option, refl}
-use Rattle.std.proofs.Common.{subst, zero, ◌⊎◌, inl, inr, map, drop, take, slice_index_or, drop_of_length-le, append-nil, is_some, true, false}
-use Rattle.std.proofs.lemmas.List.{drop_more}
-use Rattle.pas_trace.specs.{EveryPlan.{own_records, records_of_ops, all_ops}, Plans.ops_of, Acts.{MarksPhase, MarksClose, Act, phase_acts, close_acts, acts_of}}
-use Rattle.pas_trace.{specs.declared.plan.{Op.Op, Phase.Phase}, proofs.EveryPlan.{own_both, records_both}}
-use Rattle.pas_cache.specs.Caches.{Cached}
-use Rattle.pas_steps.specs.Lists.{part, Whole}
-use Rattle.pas_shared.specs.{declared.region.SharedRegion.SharedRegion, Ruled.IsEarlier}
-use Rattle.pas_answers.specs.{Answers.{Progress, with_records}, Calls.owed_events, Reaching.{Reaches, Advances}, Replays.at_start, Phases.{AreInPhases, AtMark}}
-use Rattle.pas_answers.specs.{Phases.StandFirst, Ways.{records_by, by_actors, OnThreads, AreSpoken, arranged}, Stages.{Stage, one_by_one, phase_stages}}
-use Rattle.pas_answers.{specs.Stages.{stages_of, stages_from, stage, itself}, proofs.Reached.reach_both}
-use Rattle.pas_acts.{specs.{NameBooks.{room_for, NamesAt, requests_in}, declared.names.NameBook.NameBook}, proofs.{AtDesk.sits_still, ActsLeft.acts_left}}
-use Rattle.pas_acts.proofs.{ActsLeft.{close_left, first_phase, other_phase}, PlanFacts.are_arranged}
-use Rattle.pas_threads.specs.{Pairs.{AreGuarded, owed_kept, IsLow}, Closing.{ThreadTold, KeeperTold, ClosedFirst}, Sessions.{Session, planned, owed_by}}
-use Rattle.pas_threads.specs.Sessions.{AreMarked, AreWritten, WorkerRests, WorkersRest, closing_acts, ScavengerRests, TeamAt, HasPlaces, HasRoom, PhaseDone}
-use Rattle.pas_threads.specs.{Sessions.{HasReplayed, IsOfActors, StandSo, WentBy, CloseDone}, Turns.{said_own, said_kept, said_by_all, said_by_keepers}}
-use Rattle.pas_threads.specs.{Turns.{TookNoPart, WereGathered}, declared.{workers.Worker.Worker, keeper.Keeper.Keeper, phases.Team.Team}}
-use Rattle.pas_threads.{specs.declared.scavenger.Scavenger.Scavenger, proofs.TakingTurns.{IsCleared, rests_clear, cleared_silent, same_rests}}
+use Rattle.std.proofs.Common.{subst, zero, ◌⊎◌, inl, inr, map, drop, take, slice_index_or, drop_of_length-le, append-nil, is_some}
+use Rattle.pas_threads.proofs.Common.{drop_more, own_records, records_of_ops, all_ops, ops_of, Act, phase_acts, Op, Phase, own_both, Cached, part, Whole}
+use Rattle.pas_threads.proofs.Common.{SharedRegion, IsEarlier, Progress, owed_events, Reaches, at_start, AreInPhases, AtMark, StandFirst, records_by, by_actors}
+use Rattle.pas_threads.proofs.Common.{OnThreads, Stage, one_by_one, phase_stages, stages_of, stage, itself, reach_both, room_for, NamesAt, NameBook, sits_still}
+use Rattle.pas_threads.proofs.Common.{AreGuarded, owed_kept, IsLow, ThreadTold, KeeperTold, ClosedFirst, Session, planned, owed_by, AreMarked, WorkerRests}
+use Rattle.pas_threads.proofs.Common.{WorkersRest, closing_acts, ScavengerRests, TeamAt, HasPlaces, HasRoom, PhaseDone, HasReplayed, IsOfActors, StandSo}
+use Rattle.pas_threads.proofs.Common.{WentBy, said_kept, said_by_all, said_by_keepers, TookNoPart, WereGathered, Worker, Keeper, Team, Scavenger, records_in}
+use Rattle.pas_threads.proofs.{Common.{room_of, Records, Record, Profile}, TakingTurns.{IsCleared, rests_clear, cleared_silent, same_rests}}
 use Rattle.pas_threads.proofs.{ReadyPhases.{said_in_order, kept_in_order, kept_few, by_all, owed_less, own_by, own_all, all_paid}, Keepers.alike_pushed}
 use Rattle.pas_threads.proofs.Keepers.{alike_said, guarded_alike, said_then, waits_gathered, of_gathered, silent_gathered, kept_still, keeper_is, owed_still}
 use Rattle.pas_threads.proofs.{Keepers.{low_gathered, none_there}, Closing.all_acts, Dealt.some_item, Staging.{went_both, went_mark, in_both, unmarked}}
-use Rattle.pas_threads.proofs.Staging.{phase_unmarked, close_unmarked, earlier_both, stand_first}
-use Rattle.pas_records.specs.{Rooms.{records_in, room_of, Records}, declared.record.Record.Record}
-use Rattle.pas_profile.specs.declared.profile.Profile.{Profile}
+use Rattle.pas_threads.{proofs.Staging.{phase_unmarked, close_unmarked, earlier_both, stand_first}, specs.{Sessions.{AreWritten, CloseDone}, Turns.said_own}}
+use Rattle.pas_trace.{specs.Acts.{MarksPhase, MarksClose, close_acts, acts_of}, proofs.EveryPlan.records_both}
+use Rattle.pas_answers.specs.{Answers.with_records, Reaching.Advances, Ways.{AreSpoken, arranged}, Stages.stages_from}
+use Rattle.pas_acts.proofs.{ActsLeft.{acts_left, close_left, first_phase, other_phase}, PlanFacts.are_arranged}
 
 -- What was said from p to q by the actors of these workers, which rested before it with these operations, and those left, to come. What they owe afterwards (the keepers of
 -- `owing` do), and what was said, is paid for.
@@ -210,9 +202,6 @@ module _ {region : SharedRegion} {s : Session} {team : Team} {p : Progress} {clo
   abbrev reached : Progress
   reached = did.came.reached
 
-  threads_are : length team.threads.items ≡ s.threads
-  threads_are = at.workers.many
-
   -- The scavenger, and nobody past the keepers, took part.
   no_part : (k : ℕ) → (k ≡ 0) ⊎ (s.threads + s.keepers < k) → TookNoPart k said p reached
   no_part k away = did.others k (λ m less there is. elim away [ inl first ↦ omega (arith, first, is) | inr past ↦ omega (arith, past, is, there) ])
@@ -221,7 +210,7 @@ module _ {region : SharedRegion} {s : Session} {team : Team} {p : Progress} {clo
   said_few : length (by_actors 1 s.threads said) + length (by_actors (s.threads + 1) s.threads said) + owed_by s [] reached s.threads
       ≤ owed_by s team.threads.items p s.threads + own_by (planned s) [] s.threads
   said_few = all_paid s [] said team.threads.items [] p reached s.threads (λ i lt.
-      let less : i < length team.threads.items = omega (arith, lt, threads_are) in
+      let less : i < length team.threads.items = omega (arith, lt, at.workers.many) in
       let d = some_item team.threads.items i less in
       let one = did.each i d less in
       omega (arith, one.paid, one.kept_paid, ap (λ (o : Option Keeper). owed_kept f (s.threads + suc i) o p) (keeper_is team.threads.items i d less)))
@@ -249,8 +238,7 @@ module _ {region : SharedRegion} {s : Session} {team : Team} {p : Progress} {clo
 
   -- no keeper has a guard up
   low_of : AreGuarded s.keepers closed → (i : ℕ) (d : Worker) → i < length closed → IsLow (get_or closed i d).keeper
-  low_of (true, size, all) i d lt = (did.each i d (omega (arith, lt, many))).low (omega (arith, lt, size))
-  low_of (false, none, all) i d lt = subst IsLow (sym (none_there (get_or closed i d).keeper (all i d lt))) tt
+  low_of given i d lt = search (arith, none_there)
 
   module _ {gathered : List Worker} {out out2 : Records} (g : WereGathered closed gathered out out2) where
     -- The close is done once threads are stopped, guards are lowered and all that was said is gathered.
@@ -261,17 +249,14 @@ module _ {region : SharedRegion} {s : Session} {team : Team} {p : Progress} {clo
     has_closed {after} threads scavenger book places marked {first} {last_seen} went =
         let acts = all_acts s.threads s.keepers in
         let one : (i : ℕ) (d : Worker) → i < length gathered → i < length team.threads.items = λ i d lt. omega (arith, lt, g.many, many) in
-        let clear : (i : ℕ) (d : Worker) → i < length closed → IsCleared (get_or closed i d) (get_or gathered i d) = λ i d lt.
-        let here : i < length team.threads.items = omega (arith, lt, many) in
-        cleared_silent (g.each i d lt) (ap requests_in (did.each i d here).requests ∙ (at.workers.threads i d here).asked) in
+        let clear : (i : ℕ) (d : Worker) → i < length closed → IsCleared (get_or closed i d) (get_or gathered i d) = search (arith, cleared_silent) in
         record {
           reached = reached;
           reaches = subst (λ xs. Reaches f xs p reached) acts did.came.reaches;
           team_at = record {
             fit = at.fit;
             workers = subst (λ ws. WorkersRest region s [] ws reached) (sym threads) (rest_again told gathered g.many clear);
-            scavenger = subst (λ x. ScavengerRests region f x (own_records (planned s) 0 (all_ops [])) reached) (sym scavenger)
-                (scavenger_rests (no_part 0 (inl refl)).part_is at.scavenger);
+            scavenger = rw scavenger (scavenger_rests (no_part 0 (inl refl)).part_is at.scavenger);
             nobody = λ k far. (no_part k (inr far)).part_is ∙ at.nobody k far;
             names = subst (λ (b : NameBook). NamesAt f (all_ops []) b reached) (sym book) (names_at did.names at.names);
             frees = tt;

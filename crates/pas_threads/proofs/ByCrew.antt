@@ -1,52 +1,22 @@
 -- The acts of the scavenger's worker at its bench, and the stops of the threads that are lent to it.
 use Rattle.std.proofs.Common.{◌≡◌, ◌≢◌, ℕ, ◌+◌, ◌<◌, ◌≤◌, Bool, List, [], ◌∷◌, ◌++◌, length, drop, set, get_or, refl, ap, sym, ◌∙◌, subst, arith, length-append}
-use Rattle.std.proofs.{Common.{drop_of_length-le, zero, suc, eq-eqb, ne_eqb}, lemmas.List.drop_more}
-use Rattle.pas_profile.specs.declared.profile.Profile.{Profile}
-use Rattle.pas_shared.{specs.{Benches.row_on, declared.{bench.Bench.Bench, bench_desk.{BenchDesk.BenchDesk, BenchHome.BenchHome}}}, proofs.Benching.row_tells}
-use Rattle.pas_trace.specs.{Acts.{Act, StopsIdle, idle_stops, acts_of_chore, scavenger_acts, ReadsEpoch}, Asked.work_of, EveryPlan.{AreSound, IsSoundWork}}
-use Rattle.pas_trace.specs.{EveryPlan.{asked_after, IsActorBy}, declared.plan.{Op.Op, Chore.Chore, Work.Work}}
-use Rattle.pas_answers.specs.{Answers.Progress, Reaching.Reaches, Ways.{EachOf, records_by}, Fit.{costs_of, cost_of_act, unbacks_of_act}}
-use Rattle.pas_answers.proofs.OwnRecords.{records_both, none_by, all_by}
-use Rattle.pas_steps.{specs.{Lists.part, Desks.Standing}, proofs.Parts.part_of_others}
-use Rattle.pas_acts.{specs.{Keepers.StandsStill, AtDesks.{told_if, for_act, HasRoomAt, ScavengerActs}}, proofs.AtDesk.{sits_still, sits_for}}
-use Rattle.pas_threads.specs.{Turns.{AreDistinct, Came, Pushed, Told, TookNoPart}, Lent.{Shift, number_in, standing_at, AreBeside, SitsLent, IsDeskAt}}
-use Rattle.pas_threads.specs.{Lent.{StopsLent, StoppedLent}, declared.workers.Worker.Worker, Crews.{Crew, crew, CrewSits, CrewActs, CrewStands, CrewDoes}}
-use Rattle.pas_threads.{specs.Hands.{and_left, ScavengerAt}, proofs.TakingTurns.{pushed_none, pushed_both, SoFar, at_first, goes_on, at_last, Stays, no_turn}}
+use Rattle.std.proofs.Common.{drop_of_length-le, zero, suc, eq-eqb, ne_eqb}
+use Rattle.pas_threads.proofs.Common.{drop_more, Profile, Bench, BenchDesk, BenchHome, row_tells, Act, idle_stops, acts_of_chore, scavenger_acts, work_of}
+use Rattle.pas_threads.proofs.Common.{AreSound, IsSoundWork, asked_after, Op, Chore, Work, Progress, Reaches, EachOf, records_by, costs_of, records_both}
+use Rattle.pas_threads.proofs.Common.{none_by, all_by, part, Standing, part_of_others, StandsStill, sits_still, sits_for, AreDistinct, Came, Pushed, Told}
+use Rattle.pas_threads.proofs.Common.{TookNoPart, Shift, number_in, standing_at, AreBeside, SitsLent, IsDeskAt, Worker, Crew, crew, CrewSits, CrewActs}
+use Rattle.pas_threads.proofs.{Common.{records_in, Records, Record}, TakingTurns.{pushed_none, pushed_both, SoFar, at_first, goes_on, at_last, Stays, no_turn}}
 use Rattle.pas_threads.proofs.{TakingTurns.{no_part_both, came_none, came_both, told_none, told_both, acts_in_turn}, CrewSits.lent_stays}
-use Rattle.pas_records.specs.{Rooms.{records_in, Records}, declared.record.Record.Record}
+use Rattle.pas_threads.specs.{Lent.{StopsLent, StoppedLent}, Crews.{CrewStands, CrewDoes}, Hands.{and_left, ScavengerAt}}
+use Rattle.pas_trace.specs.{Acts.{StopsIdle, ReadsEpoch}, EveryPlan.IsActorBy}
+use Rattle.pas_answers.specs.Fit.{cost_of_act, unbacks_of_act}
+use Rattle.pas_acts.specs.AtDesks.{told_if, for_act, HasRoomAt, ScavengerActs}
 
 -- ---- what is said of one thread's stop
 -- that it was stopped says the scavenger
-told_own : (stopped : Bool) (k : ℕ) → EachOf 0 (told_if stopped k)
-told_own a k = search arith
-
-told_one : (stopped : Bool) (k : ℕ) → length (told_if stopped k) ≤ 1
+told_by : (stopped : Bool) (k : ℕ) → EachOf 0 (told_if stopped k) × (length (told_if stopped k) ≤ 1)
 -- By both values of the test.
-told_one a k = search arith
-
--- ---- the next of the lent threads
-stops : {h : BenchHome} {s : Shift} {acts : List Act} {bench bench' : Bench} {old now : List Worker} {out out1 out2 : Records} {p : Progress} (n i : ℕ)
-    (d w : Worker)
-    → length old ≡ length s.idle → (so : StoppedLent h s acts bench old now out out1 i p) → i < length old → length now ≡ length old
-    → StopsLent h s.profile (number_in s i) n bench' (get_or now i d) w out1 out2 (s.lends i) so.did.turns.came.reached
-    → StoppedLent h s (acts ++ (StopsIdle (number_in s i) n ∷ [])) bench' old (set now i w) out out2 (i + 1) p
-stops {h} {s} {acts} {bench} {bench'} {old} {now} {out} {out1} {out2} {p} n i d w size so lt many t =
-    let k = number_in s i in
-    let x = t.does in
-    let told = told_if t.stopped k in
-    let theirs = told_own t.stopped k in
-    let apart : AreDistinct (number_in s) (length old) = subst (AreDistinct (number_in s)) (sym size) s.distinct in
-    let by = records_both 0 x.own told ∙ ap (λ (xs : List Record). xs ++ records_by 0 told) (none_by 0 k x.own x.each (λ is. (apart.threads i lt) (sym is))) in
-    let both = ap length (records_both 0 so.did.turns.came.said (x.own ++ told))
-    ∙ length-append (records_by 0 so.did.turns.came.said) (records_by 0 (x.own ++ told)) in
-    record {
-      did = record {
-        turns = acts_in_turn (lent_stays h.region h.row.actors s) apart theirs i d w lt many so.did.turns x t.requests t.keeper t.sits;
-        told = pushed_both so.did.told (record { added = t.told.added ∙ ap (λ (rs : List Record). records_in out1 ++ rs) (sym by); room = t.told.room });
-        few = omega (arith, both, ap length (by ∙ all_by 0 told theirs), so.did.few, told_one t.stopped k);
-      };
-      over = t.over;
-    }
+told_by a k = search arith
 
 -- ---- all of them
 -- the stops of the lent threads before this place were done
@@ -64,8 +34,24 @@ pub stops_go_on : {h : BenchHome} {s : Shift} {bench bench' : Bench} {old now : 
     → length old ≡ length s.idle → (so : StopsSoFar h s n bench old now out out1 i p) → i < length old → length now ≡ length old
     → StopsLent h s.profile (number_in s i) n bench' (get_or now i d) w out1 out2 (s.lends i) so.done.did.turns.came.reached
     → StopsSoFar h s n bench' old (set now i w) out out2 (i + 1) p
-stops_go_on {s = s} n i d w size so lt many t =
-    goes_on (StopsIdle (number_in s i) n ∷ []) (ap (idle_stops n) (drop_more s.idle i 0 (omega (arith, lt, size)))) so (stops n i d w size so.done lt many t)
+stops_go_on {h} {s} {bench} {bench'} {old} {now} {out} {out1} {out2} {p} n i d w size so lt many t =
+    let k = number_in s i in
+    let x = t.does in
+    let told = told_if t.stopped k in
+    let theirs = told_by t.stopped k in
+    let apart : AreDistinct (number_in s) (length old) = subst (AreDistinct (number_in s)) (sym size) s.distinct in
+    let by = records_both 0 x.own told ∙ ap (λ (xs : List Record). xs ++ records_by 0 told) (none_by 0 k x.own x.each (λ is. (apart.threads i lt) (sym is))) in
+    let both = ap length (records_both 0 so.done.did.turns.came.said (x.own ++ told))
+    ∙ length-append (records_by 0 so.done.did.turns.came.said) (records_by 0 (x.own ++ told)) in
+    goes_on (StopsIdle k n ∷ []) (ap (idle_stops n) (drop_more s.idle i 0 (omega (arith, lt, size)))) so
+    (record {
+      did = record {
+        turns = acts_in_turn (lent_stays h.region h.row.actors s) apart theirs.0 i d w lt many so.done.did.turns x t.requests t.keeper t.sits;
+        told = pushed_both so.done.did.told (record { added = t.told.added ∙ ap (λ (rs : List Record). records_in out1 ++ rs) (sym by); room = t.told.room });
+        few = omega (arith, both, ap length (by ∙ all_by 0 told theirs.0), so.done.did.few, theirs.1);
+      };
+      over = t.over;
+    })
 
 -- Once each lent worker had its turn, all the stops of the idle threads were done.
 pub stops_end : {h : _} {s : Shift} {bench old now out out1 p : _} (n i : ℕ) → length old ≡ length s.idle → length old ≤ i → i ≤ length old
@@ -126,25 +112,16 @@ did_idle {h} {s} {next} {σ} {σ'} {places} {out} {out'} {old} {new} {p} n desk 
     let costs = costs_stops s.profile n s.idle next in
     let many = at.lent.many in
     let longer = ap length stops.told.added ∙ length-append (records_in out) (records_by 0 stops.turns.came.said) in
-    let row = row_on desk.place.bench in
-    let its = desk.place.sits.among_them in
     let still : StandsStill σ' (standing_at desk) read.reached.list stops.turns.came.reached.list =
     record {
       seat_is = seat;
-      stands = λ stood same. (sym (row_tells row stops.turns.came.reached.list desk.place.member.actor stopped.over its), stopped.over);
+      stands = λ stood same. (sym (row_tells _ stops.turns.came.reached.list desk.place.member.actor stopped.over desk.place.sits.among_them), stopped.over);
     } in
     let own_part = stops.turns.leaves.parts 0 (λ i lt same. s.distinct.threads i (omega (arith, lt, many)) (sym same)) in
     record {
       came = came_both (came stays at read) stops.turns.came;
       stands = record {
-        stands = record {
-          stands = record {
-            sits = sits_still (λ v. costs_of s.profile.pages next + s.own.events) still own_part
-                (sits_for read.stands.sits (omega (arith, costs)));
-            spare = omega (arith, longer, stops.few, read.stands.spare, costs, many, stops.told.room);
-          };
-          has_places = at.stands.has_places;
-        };
+        stands = search (arith, sits_still, stops);
         lent = record { many = size ∙ many; each = λ i d lt. stops.turns.stand i d (omega (arith, lt, size)) };
       };
       told = pushed_both (own_told stays at read) stops.told;

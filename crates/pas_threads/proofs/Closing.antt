@@ -1,25 +1,20 @@
 -- The close: thread by thread and keeper by keeper; and behind each of these acts the ledger takes in a pass, is settled, and gives the pass back.
 use Rattle.std.proofs.Common.{◌≡◌, ◌≢◌, ℕ, suc, ◌+◌, ◌-◌, ◌<◌, inl, inr, List, [], ◌∷◌, ◌++◌, length, set, get_or, map, Option, Some, refl, ap, sym, ◌∙◌, subst}
-use Rattle.std.proofs.{Common.{arith, length-append, take, take_all, get_or-append-add, append-nil, is_some, false, true}, lemmas.List.get_or_default}
-use Rattle.std.proofs.{lemmas.List.{length-map, get_or-map, take_more, map-append}, Math.ListN.get_or-append}
-use Rattle.pas_profile.specs.declared.profile.Profile.{Profile}
-use Rattle.pas_steps.{specs.Lists.{Whole, part}, proofs.Parts.part_of_others}
-use Rattle.pas_trace.{specs.{Acts.{Act, Ends, Lowers, numbers_from}, declared.plan.Op.Op}, proofs.ThreadsInOrder.numbers_count}
-use Rattle.pas_cache.specs.{Caches.{Cached, cached}, declared.cache.ThreadCache.ThreadCache}
-use Rattle.pas_shared.specs.{Ruled.{IsEarlier, AreEarlier, HasPart}, Passes.{view_of, IsPassOf}, declared.region.SharedRegion.SharedRegion}
-use Rattle.pas_shared.specs.{declared.{pass.SharedPass.SharedPass, ledger.Ledger.Ledger, rule.{Entry.Entry, Part.Part}}, Ledgers.{so_far, looks_of, actors_in}}
-use Rattle.pas_shared.specs.Ledgers.{part_of, IsSameLedger, IsRestOf}
-use Rattle.pas_answers.specs.{Answers.{Progress, Caches, Books}, Stages.{Stage, one_by_one, stage, itself}, Calls.owed_events, Ways.{EachOf, records_by}}
-use Rattle.pas_answers.{specs.Reaching.Reaches, proofs.OwnRecords.{records_both, all_by, none_by, spoken_piece, spoken_both}}
-use Rattle.pas_acts.{specs.{AtDesks.ThreadActs, Keepers.KeeperLowers, Pairs.KeptPushed}, proofs.{AtDesk.{leaves_rest, rests_still}, Working.kept_both}}
-use Rattle.pas_threads.specs.Pairs.{no_more, kept_by_worker, owed_kept, AreGuarded, IsKeeperOf, IsLow, KeeperLowered, IsButKeeper, KeeperStands}
-use Rattle.pas_threads.specs.{Sessions.{Session, evenly, closing_acts, StandSo, WentBy, WorkersRest}, Settling.{ActorsStand, Settled, StandsIn}}
-use Rattle.pas_threads.specs.{Closing.{ThreadTold, KeeperTold, ClosedFirst, ClosesNext, ClosedSo, IsClosing, MayClose}, Turns.{Came, Pushed, Turn, TookTurns}}
-use Rattle.pas_threads.{specs.{Turns.{IsDue, owed_at}, declared.{keeper.Keeper.Keeper, workers.Worker.Worker}}, proofs.{Dealt.number_at, Staging.still_at}}
-use Rattle.pas_threads.proofs.{Staging.{thread_stands, keeper_stands, went_none, went_both, went_alone}, Keepers.{alike_pushed, guarded_alike, waits_still}}
-use Rattle.pas_threads.proofs.{Keepers.{kept_none, kept_there, stands_for}, TakingTurns.{set_each, came_none, came_both, pushed_none, pushed_both}}
-use Rattle.pas_threads.proofs.TakingTurns.{no_part_both, pass_still, same_owed}
-use Rattle.pas_records.specs.{Rooms.{records_in, room_of}, declared.record.Record.Record}
+use Rattle.std.proofs.{Common.{arith, length-append, take, take_all, get_or-append-add, append-nil, is_some, false, true}, lemmas.List.{take_more, map-append}}
+use Rattle.pas_threads.proofs.Common.{get_or_default, length-map, get_or-map, get_or-append, Profile, Whole, part, part_of_others, Act, numbers_from, Op}
+use Rattle.pas_threads.proofs.Common.{numbers_count, cached, ThreadCache, IsEarlier, AreEarlier, view_of, IsPassOf, SharedRegion, SharedPass, Ledger, Entry}
+use Rattle.pas_threads.proofs.Common.{so_far, looks_of, actors_in, part_of, Progress, Stage, one_by_one, stage, itself, EachOf, records_by, Reaches}
+use Rattle.pas_threads.proofs.Common.{records_both, all_by, none_by, ThreadActs, KeeperLowers, KeptPushed, leaves_rest, no_more, kept_by_worker, owed_kept}
+use Rattle.pas_threads.proofs.Common.{AreGuarded, IsKeeperOf, IsLow, KeeperLowered, KeeperStands, Session, evenly, closing_acts, StandSo, WentBy, WorkersRest}
+use Rattle.pas_threads.proofs.Common.{ActorsStand, StandsIn, ThreadTold, KeeperTold, ClosedFirst, ClosesNext, ClosedSo, Came, Pushed, Turn, TookTurns, IsDue}
+use Rattle.pas_threads.proofs.{Common.{Keeper, Worker, records_in, room_of, Record, WorkerHas}, Dealt.number_at, Staging.{still_at, thread_stands}}
+use Rattle.pas_threads.proofs.{Staging.{keeper_stands, went_both, went_alone}, Keepers.{alike_pushed, guarded_alike, waits_still, kept_none, kept_there}}
+use Rattle.pas_threads.proofs.{Keepers.stands_for, TakingTurns.{set_each, came_none, came_both, pushed_none, pushed_both, no_part_both, same_owed, has_still}}
+use Rattle.pas_threads.{proofs.TakingTurns.owed_now, specs.{Pairs.IsButKeeper, Settling.Settled, Closing.IsClosing}}
+use Rattle.pas_trace.specs.Acts.{Ends, Lowers}
+use Rattle.pas_shared.specs.{Ruled.HasPart, declared.rule.Part.Part, Ledgers.{IsSameLedger, IsRestOf}}
+use Rattle.pas_answers.{specs.Answers.{Caches, Books}, proofs.OwnRecords.{spoken_piece, spoken_both}}
+use Rattle.pas_acts.proofs.Working.{kept_both}
 
 -- ---- all actors stand after turns of the threads
 pub turns_stand : {region : SharedRegion} {s : Session} {slot : Option SharedPass} {acts : List Act} {old now : List Worker} {later : ℕ → ℕ} {o p : Progress}
@@ -81,26 +76,17 @@ module _ {f : Profile} {k : ℕ} {act : Act} {q : Progress} (x : ActorDid f k ac
 module _ {region : SharedRegion} {s : Session} {k : ℕ} {act : Act} {q : Progress} (x : ActorDid s.profile k act q) where
   thread_stays : {left : List Op} {said : List Record} {old new : Worker} (j : ℕ) → j ≢ k → ThreadTold region s left j said old new q
       → ThreadTold region s left j (said ++ x.came.said) old new x.came.reached
-  thread_stays j ne t = record {
-    here = record { has = t.here.has; rests = rests_still (pass_still t.here.has.pass) (x.parts j ne) (x.caches j ne) t.here.rests };
-    out = pushed_both t.out (pushed_none (silent x j ne));
-  }
+  thread_stays j ne t = record { here = has_still (x.parts j ne) (x.caches j ne) t.here; out = pushed_both t.out (pushed_none (silent x j ne)) }
 
   keeper_stays : {left : List Op} {said : List Record} {old new : Option Keeper} (j : ℕ) → s.threads + j ≢ k → KeeperTold region s left j said old new q
       → KeeperTold region s left j (said ++ x.came.said) old new x.came.reached
-  keeper_stays {said = said} {old} {new} j ne t = record {
-    of = t.of;
-    waits = waits_still s.profile (s.threads + j) _ new no_more q x.came.reached (x.parts (s.threads + j) ne) (x.books (s.threads + j) ne) t.waits;
-    out = kept_both (s.threads + j) said x.came.said (kept_by_worker old) (kept_by_worker new) (kept_by_worker new) t.out
-        (kept_none (s.threads + j) x.came.said (kept_by_worker new) (silent x (s.threads + j) ne));
-  }
+  keeper_stays {left} {said} {old} {new} j ne t =
+      search (arith, waits_still, kept_both, kept_none, silent x, x.parts (s.threads + j) ne, x.books (s.threads + j) ne)
 
 -- ---- the acts of the close
 closing_many : (threads keepers : ℕ) → length (closing_acts threads keepers) ≡ threads + keepers
 closing_many threads keepers =
-    let first = length-map (numbers_from 1 threads) Ends ∙ numbers_count 1 threads in
-    let second = length-map (numbers_from (threads + 1) keepers) Lowers ∙ numbers_count (threads + 1) keepers in
-    omega (arith, first, second, length-append (map Ends (numbers_from 1 threads)) (map Lowers (numbers_from (threads + 1) keepers)))
+    search (arith, length-map, numbers_count, length-append)
 
 -- Once each actor had its turn all acts are done.
 pub all_acts : (threads keepers : ℕ) → take (threads + keepers) (closing_acts threads keepers) ≡ closing_acts threads keepers
@@ -128,22 +114,11 @@ keeper_act threads keepers j lt =
     take_more (closing_acts threads keepers) (threads + j) (Ends 0) (omega (arith, lt, many)) ∙ ap (λ act. take (threads + j) (closing_acts threads keepers) ++ act ∷ []) is
 
 -- ---- the first actors close
-pub closes_begin : {region : SharedRegion} {s : Session} {old : List Worker} {p : Progress} → WorkersRest region s [] old p → ClosedFirst region s 0 old old p
+unfoldable pub closes_begin : {region s old p : _} → WorkersRest region s [] old p → ClosedFirst region s 0 old old p
 closes_begin {s = s} {old} {p} at = record {
   came = came_none s.profile p;
   spoken = tt;
-  each = λ j d lt.
-      let kept = at.kept j d lt in
-      record {
-        thread = record { here = (at.threads j d lt).here; out = pushed_none refl };
-        keeper = record { of = kept.of; waits = kept.waits; out = kept_none (s.threads + suc j) [] (kept_by_worker (get_or old j d).keeper) refl };
-        requests = refl;
-        paid = omega arith;
-        kept_paid = omega arith;
-        empty = λ less. absurd (omega (arith, less));
-        low = λ less. absurd (omega (arith, less));
-        left = λ le. refl;
-      };
+  each = λ j d lt. search (arith, at.threads j d lt, at.kept j d lt, pushed_none, kept_none);
   others = λ k other. record { part_is = refl; silent = refl };
   names = refl;
 }
@@ -156,8 +131,7 @@ module _ {region : SharedRegion} {s : Session} {i : ℕ} {old now : List Worker}
   pub closed_stand : {slot : Option SharedPass} → length now ≡ length old → ActorsStand region s slot old p.list → ActorsStand region s slot now q.list
   closed_stand many at = record {
     many = many ∙ at.many;
-    guarded = guarded_alike old now many
-        (λ j d lt. alike_pushed (s.threads + suc j) so.came.said (get_or old j d).keeper (get_or now j d).keeper (so.each j d lt).keeper.out) at.guarded;
+    guarded = search (arith, guarded_alike, alike_pushed);
     scavenger = still_at (so.others 0 (λ m less there is. omega (arith, is))).part_is at.scavenger;
     threads = λ j d lt. thread_stands (so.each j d (omega (arith, lt, many))).thread.here;
     keepers = λ j d keeper lt is. let told = (so.each j d (omega (arith, lt, many))).keeper in keeper_stands s.profile [] no_more q (get_or now j d).keeper keeper is told.of told.waits;
@@ -176,10 +150,9 @@ module _ {region : SharedRegion} {s : Session} {i : ℕ} {old now : List Worker}
         let one = so.each j e lt in
         let apart : suc j ≢ k = λ is. thread (omega (arith, is, at)) in
         let away : s.threads + suc j ≢ k = λ is. keeper (omega (arith, is, at)) in
-        let own = ap length (said_other x so.came.said (suc j) apart) in
         let same = same_owed s.profile q x.came.reached (suc j) (x.parts (suc j) apart) (x.caches (suc j) apart) in
         let kept = ap length (said_other x so.came.said (s.threads + suc j) away) in
-        search (arith, thread_stays, keeper_stays, own, same, kept, one.empty, one.low, one.left) fits 400
+        search (arith, thread_stays, keeper_stays, ap length (said_other x so.came.said (suc j) apart), same, kept, one.empty, one.low, one.left) fits 400
 
     abbrev closes : (j : ℕ) (w : Worker) → j < length old
         → ((e : Worker) → IsClosing region s (i + 1) j said (get_or old j e) w p x.came.reached)
@@ -214,12 +187,9 @@ module _ {region : SharedRegion} {s : Session} {i : ℕ} {old now : List Worker}
       let pushed : Pushed (suc i) x.own (get_or now i d).out w.out =
       record { added = x.pushed ∙ ap (λ rs. records_in (get_or now i d).out ++ rs) (sym (all_by (suc i) x.own x.each)); room = x.room } in
       let longer = ap length (records_both (suc i) so.came.said x.own) ∙ length-append (records_by (suc i) so.came.said) (records_by (suc i) x.own) in
-      let then : owed_at s.profile (suc i) x.reached ≡ owed_events s.profile (cached w.cache) (part (suc i) x.reached.list) =
-      ap (λ (c : Cached). owed_events s.profile c (part (suc i) x.reached.list)) x.stands.cache in
-      let before : owed_at s.profile (suc i) q ≡ owed_events s.profile (cached (get_or now i d).cache) (part (suc i) q.list) =
-      ap (λ (c : Cached). owed_events s.profile c (part (suc i) q.list)) (so.each i d lt).thread.here.rests.cache in
+      let here : WorkerHas region s.profile (suc i) w (evenly 0) x.reached = record { has = t.did.after; rests = x.stands } in
       let told : ThreadTold region s [] (suc i) all (get_or old i e) w x.reached = record {
-        here = record { has = t.did.after; rests = x.stands };
+        here = here;
         out = pushed_both one.thread.out (subst (λ (v : Worker). Pushed (suc i) x.own v.out w.out) same pushed);
       } in
       let stays = keeper_stays did (suc i) away one.keeper in
@@ -227,7 +197,8 @@ module _ {region : SharedRegion} {s : Session} {i : ℕ} {old now : List Worker}
       let requests = t.requests ∙ ap (λ (v : Worker). v.requests) same in
       let own = ap length (all_by (suc i) x.own x.each) in
       let other = ap length (said_other did so.came.said (s.threads + suc i) away) in
-      search (arith, told, kept, requests, longer, own, then, before, x.paid, one.paid, other, one.kept_paid, keeper, one.left, lt, threads) fits 400 in
+      let owed = owed_now (so.each i d lt).thread.here in
+      search (arith, told, kept, requests, longer, own, owed_now here, owed, x.paid, one.paid, other, one.kept_paid, keeper, one.left, lt, threads) fits 400 in
       record {
         next = closes did refl many acts (omega (arith, lt, threads)) i w lt this (λ m ne less. (ne, λ is. omega (arith, is, lt, less, threads)));
         act = Ends (suc i);
@@ -295,12 +266,11 @@ module _ {region : SharedRegion} {s : Session} {i : ℕ} {old now : List Worker}
         let apart : suc j ≢ k = λ is. omega (arith, is, lt, threads) in
         let changed : IsButKeeper (get_or now j e) w = subst (λ (v : Worker). IsButKeeper v w) (get_or_default now j d e place) but in
         let own = ap length (said_other x so.came.said (suc j) apart) in
-        let size = ap length its_said in
         let same = same_owed s.profile q did.did.reached (suc j) (x.parts (suc j) apart) (x.caches (suc j) apart) in
         let kept = ap (λ (o : Option Keeper). owed_kept s.profile k o p) (sym (one.left (omega (arith, at))) ∙ was e) in
         let empty = ap (λ (c : ThreadCache). (cached c).locals) changed.cache ∙ one.empty (omega (arith, lt, threads, at)) in
         let low = subst IsLow (sym lowered) did.did.none in
-        search (arith, thread_then e, keeper_then e, own, same, one.paid, size, kept, did.did.few, empty, low, at, lt, threads) fits 400
+        search (arith, thread_then e, keeper_then e, own, same, one.paid, ap length its_said, kept, did.did.few, empty, low, at, lt, threads) fits 400
 
     pub keeper_closes : ClosesNext region s i old now (set now j w) p so
     keeper_closes =
@@ -315,11 +285,6 @@ module _ {region : SharedRegion} {s : Session} {i : ℕ} {old now : List Worker}
         }
 
 -- ---- .. and the ledger is settled behind each
-pub settles_begin : {region : SharedRegion} {s : Session} {slot : Option SharedPass} {old : List Worker} {before : Whole} {p : Progress}
-    → MayClose region s slot old before p → ClosedSo region s 0 old old before before p
-unfolding closes_begin
-settles_begin {s = s} may = record { closing = closes_begin may.rest; went = went_none s may.stood may.stand.nobody }
-
 -- Once it is settled behind one more act, one more stage is behind it.
 pub settles_next : {region s slot i old now new before after settled p : _} (so : ClosedSo region s i old now before after p)
     (n : ClosesNext region s i old now new p so.closing) → length now ≡ length old → length new ≡ length old → ActorsStand region s slot old p.list

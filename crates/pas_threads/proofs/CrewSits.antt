@@ -1,25 +1,18 @@
 -- The scavenger's worker with the lent threads on one bench: they sit down, take their places at its desk, and leave.
 use Rattle.std.proofs.Common.{◌≡◌, ◌≢◌, ◌⊎◌, ⊎_elim, ℕ, ◌+◌, ◌<◌, ◌≤◌, Bool, true, false, if◌then◌else◌, List, [], ◌∷◌, ◌++◌, length, set, get_or, Some, refl}
-use Rattle.std.proofs.{Common.{ap, sym, ◌∙◌, subst, arith, true≢false, eq-eqb, ne_eqb, zero, suc, append-nil, get_or-set_other}, lemmas.Bool.cases_eq}
-use Rattle.std.proofs.lemmas.{Option.same_Some, List.get_or_default}
-use Rattle.pas_profile.specs.declared.profile.Profile.{Profile}
-use Rattle.pas_steps.specs.{Lists.{Whole, part}, Views.View, Noted.AreNotesOf}
-use Rattle.pas_cache.specs.Caches.{cached}
-use Rattle.pas_shared.specs.{Ruled.{among, made_in, all_actors, only_this, isnt, rows_of, rows_of_only, steps_of, IsRowOf, AreRowsOf, only}, Benches.empty_row}
-use Rattle.pas_shared.specs.Benches.{first_row, row_on, rows_on, seat_of_member, standing_on, HasLooked, IsBenchOf, IsMemberOf, SitsInRow, MaySitOn, StandsOver}
-use Rattle.pas_shared.specs.{Ledgers.part_of, Passes.{seat_of, view_of, IsPassOf}, declared.bench.{Bench.Bench, Member.Member}}
-use Rattle.pas_shared.specs.declared.{bench_desk.{BenchDesk.BenchDesk, BenchHome.BenchHome}, pass.SharedPass.SharedPass, region.SharedRegion.SharedRegion}
-use Rattle.pas_shared.{specs.declared.rule.{Entry.Entry, Row.Row}, proofs.Benching.{among_picked, row_tells, stands_first, among_only}}
-use Rattle.pas_trace.specs.Acts.{Act}
-use Rattle.pas_answers.{specs.Answers.Progress, proofs.Reached.goes_on}
-use Rattle.pas_acts.{specs.{Works.Later, Turns.RestsAt, Keepers.StandsStill}, proofs.AtDesk.rests_still}
-use Rattle.pas_threads.specs.{Hands.standing_of_pass, Left.{crew_in, KeepsOrder}, Sessions.WorkerHas, Scavengers.CrewHasLeft, Turns.Told, Lent.Shift}
-use Rattle.pas_threads.specs.Lent.{number_in, IsLent, AreLent, standing_at, home_at, SitsLent, AreOfCrew, TellAs, IsDeskAt, MayLeaveAll, SitsAmong}
-use Rattle.pas_threads.specs.{Lent.{standing_among, WorkerSits, IsButPlace, HasSeat, AreSeated, MayLeave, HasLeave, HaveLeave}, Crews.{crew, CrewAt, CrewSits}}
-use Rattle.pas_threads.{specs.{Crews.{CrewActs, CrewSat, CrewMayRise, CrewRose}, declared.workers.Worker.Worker}, proofs.Benched.{among_cases, among_here}}
-use Rattle.pas_threads.proofs.{Benched.{among_later, seated, row_part, rows_part, has_seat, member_seat, sits_as, keeps_order}, TakingTurns.{Stays, set_each}}
-use Rattle.pas_records.specs.{Rooms.Records, declared.record.Record.Record}
-use Rattle.pas_core.proofs.Choosing.{steps_by_same}
+use Rattle.std.proofs.Common.{ap, sym, ◌∙◌, subst, arith, true≢false, eq-eqb, ne_eqb, zero, suc, append-nil, get_or-set_other}
+use Rattle.pas_threads.proofs.Common.{cases_eq, same_Some, get_or_default, Profile, Whole, part, View, cached, among, made_in, all_actors, only_this, isnt}
+use Rattle.pas_threads.proofs.Common.{rows_of, rows_of_only, steps_of, IsRowOf, AreRowsOf, empty_row, first_row, row_on, rows_on, seat_of_member, standing_on}
+use Rattle.pas_threads.proofs.Common.{HasLooked, IsBenchOf, IsMemberOf, SitsInRow, MaySitOn, StandsOver, part_of, seat_of, view_of, IsPassOf, Bench, Member}
+use Rattle.pas_threads.proofs.Common.{BenchDesk, BenchHome, SharedPass, SharedRegion, Entry, Row, among_picked, row_tells, stands_first, Act, Progress, goes_on}
+use Rattle.pas_threads.proofs.Common.{Later, RestsAt, StandsStill, rests_still, standing_of_pass, crew_in, KeepsOrder, WorkerHas, Told, Shift, number_in}
+use Rattle.pas_threads.proofs.Common.{IsLent, AreLent, standing_at, home_at, SitsLent, AreOfCrew, TellAs, IsDeskAt, MayLeaveAll, crew, CrewAt, CrewSits}
+use Rattle.pas_threads.proofs.{Common.{CrewActs, Worker, Records, Record}, Benched.{among_cases, among_here, among_later, seated, row_part, rows_part}}
+use Rattle.pas_threads.{proofs.{Benched.{has_seat, member_seat, sits_as, keeps_order}, TakingTurns.{Stays, set_each}}, specs.Scavengers.CrewHasLeft}
+use Rattle.pas_threads.specs.{Lent.{SitsAmong, standing_among, WorkerSits, IsButPlace, HasSeat, AreSeated, MayLeave, HasLeave, HaveLeave}, Crews.CrewSat}
+use Rattle.pas_threads.specs.Crews.{CrewMayRise, CrewRose}
+use Rattle.pas_steps.specs.Noted.{AreNotesOf}
+use Rattle.pas_shared.{specs.Ruled.only, proofs.Benching.among_only}
 
 -- ---- who is among some actors
 pub among_at : (ks : List ℕ) (i : ℕ) → i < length ks → among ks (get_or ks i 0) ≡ true
@@ -70,14 +63,11 @@ noted_by {pass} is view = rw (is.notes, is.actor, sym view) pass.noted
 
 sits_down : {region : SharedRegion} {f : Profile} {k : ℕ} {old new : Worker} {rows rows' : List Row} {later : Later} {p : Progress}
     → WorkerHas region f k old later p → HasSeat region old new rows rows' → WorkerSits region (all_actors rows') f k new later p
-sits_down {region} {f} {k} {old} {new} {rows} {rows'} {later} {p} was seat =
-    let pass = seat.has.pass in
-    let member = seat.member in
-    record {
-      member = member;
-      present = seat.present;
-      rests = search (arith, member_seat, among_here, noted_by) fits 400;
-    }
+sits_down {region} {f} {k} {old} {new} {rows} {rows'} {later} {p} was seat = record {
+  member = seat.member;
+  present = seat.present;
+  rests = search (arith, member_seat, among_here, noted_by) fits 400;
+}
 
 -- the rows with one more say what the list tells, too
 tell_more : (pass : SharedPass) (rows rows' : List Row) (l : Whole) → rows' ≡ rows_of (part_of pass ∷ []) ++ rows → view_of pass ≡ part pass.place.actor l
@@ -88,32 +78,27 @@ tell_more pass rows rows' l is view tell k its = search (arith, has_seat, among_
 pub record SeatedSoFar (region : SharedRegion) (s : Shift) (i : ℕ) (old now : List Worker) (rows : List Row) (p : Progress) : Type 0 where
   pub each : (j : ℕ) (d : Worker) → j < i → j < length old
       → SitsLent region (all_actors rows) s j (get_or now j d) p × IsButPlace (get_or old j d) (get_or now j d)
-  pub left : (j : ℕ) (d : Worker) → i ≤ j → get_or now j d ≡ get_or old j d
   pub crew : AreOfCrew s 0 i (all_actors rows)
   pub tell : TellAs rows p.list
 
 crew_more : {s : Shift} {i : ℕ} {actors : List ℕ} (a : ℕ) → a ≡ number_in s i → AreOfCrew s 0 i actors → AreOfCrew s 0 (i + 1) (a ∷ actors)
-crew_more {s} {i} {actors} a is crew = search (arith, among_later, among_here, among_cases)
-  where
-    cases_at : (j : ℕ) → (j ≡ i) ⊎ (j ≢ i)
-    cases_at j = cases_eq j i
+crew_more {s} {i} {actors} a is crew = search (arith, among_later, among_here, among_cases, (λ (j : ℕ). cases_eq j i))
 
 -- After one more lent worker sat down with its pass, one more sits on the bench.
 pub seats_go_on : {region s i old now rows rows' p : _} (d w : Worker) → i < length old → length now ≡ length old → AreLent region s old p
-    → SeatedSoFar region s i old now rows p → HasSeat region (get_or now i d) w rows rows' → SeatedSoFar region s (i + 1) old (set now i w) rows' p
-seats_go_on {region} {s} {i} {old} {now} {rows} {rows'} {p} d w lt many lent so seat =
-    let was = subst (λ w. IsLent region s i w p) (sym (so.left i d (omega arith))) (lent.each i d lt) in
+    → get_or now i d ≡ get_or old i d → SeatedSoFar region s i old now rows p → HasSeat region (get_or now i d) w rows rows'
+    → SeatedSoFar region s (i + 1) old (set now i w) rows' p
+seats_go_on {region} {s} {i} {old} {now} {rows} {rows'} {p} d w lt many lent left so seat =
+    let was = subst (λ w. IsLent region s i w p) (sym left) (lent.each i d lt) in
     let sits = sits_down was seat in
     let rests = seated (λ σ. RestsAt s.profile (number_in s i) σ (cached (get_or now i d).cache) (get_or now i d).out (s.lends i) p) seat.has.pass seat.has.present was.has was.rests in
     let actor = rests.sits.actor in
-    let wider : (k : ℕ) → among (all_actors rows) k ≡ true → among (all_actors rows') k ≡ true =
-    λ k its. ap (λ (rs : List Row). among (all_actors rs) k) seat.rows_are ∙ among_later seat.has.pass.place.actor k (all_actors rows) its
-    in
+    let wider = λ (k : ℕ) (its : among (all_actors rows) k ≡ true).
+    ap (λ (rs : List Row). among (all_actors rs) k) seat.rows_are ∙ among_later seat.has.pass.place.actor k (all_actors rows) its in
     record {
       each = λ j e less within. set_each (λ (m : ℕ) (x : Worker). SitsLent region (all_actors rows') s m x p × IsButPlace (get_or old m e) x) now i w e j
-          (omega (arith, lt, many)) (sits, subst (λ (x : Worker). IsButPlace x w) (so.left i d (omega arith) ∙ get_or_default old i d e lt) seat.but)
+          (omega (arith, lt, many)) (sits, subst (λ (x : Worker). IsButPlace x w) (left ∙ get_or_default old i d e lt) seat.but)
           (λ ne. let one = so.each j e (omega (arith, less, ne)) within in (sits_wider wider one.0, one.1));
-      left = λ j e from. let ne : j ≢ i = λ (is : j ≡ i). omega (arith, is, from) in get_or-set_other now i j w e ne ∙ so.left j e (omega (arith, from));
       crew = subst (λ (rs : List Row). AreOfCrew s 0 (i + 1) (all_actors rs)) (sym seat.rows_are) (crew_more seat.has.pass.place.actor actor so.crew);
       tell = tell_more seat.has.pass rows rows' p.list seat.rows_are (rests.sits.stood ∙ ap (λ (k : ℕ). part k p.list) (sym actor)) so.tell;
     }
@@ -129,37 +114,33 @@ seats_end {region} {s} {i} {old} {now} {rows} {p} le ge many lent so = search ar
 at_home : {h : BenchHome} (desk : BenchDesk) → home_at desk ≡ h → (k : ℕ) → among (row_on desk.place.bench).actors k ≡ among h.row.actors k
 at_home desk home k = ap (λ (g : BenchHome). among g.row.actors k) home
 
-tells_of : {h desk p : _} → IsDeskAt h desk p → (k : ℕ) → among (row_on desk.place.bench).actors k ≡ true → part k p.list ≡ made_in (row_on desk.place.bench) k
-tells_of {desk = desk} {p} at k its = row_tells (row_on desk.place.bench) p.list k at.over its
+module _ {h : BenchHome} {desk : BenchDesk} {p : Progress} (at : IsDeskAt h desk p) where
+  tells_of : (k : ℕ) → among (row_on desk.place.bench).actors k ≡ true → part k p.list ≡ made_in (row_on desk.place.bench) k
+  tells_of k its = row_tells (row_on desk.place.bench) p.list k at.over its
 
--- A lent worker that sits on the bench may sit down at its desk.
-pub may_sit : {h : BenchHome} {desk : BenchDesk} {f : Profile} {k : ℕ} {worker : Worker} {later : Later} {p : Progress} → IsDeskAt h desk p
-    → (w : WorkerSits h.region h.row.actors f k worker later p) → MaySitOn desk.region.now desk.place.bench w.member
-may_sit {h} {desk} {f} {k} {worker} {later} {p} at w = search (arith, at_home, tells_of)
+  module _ {f : Profile} {k : ℕ} {worker : Worker} {later : Later} (w : WorkerSits h.region h.row.actors f k worker later p) where
+    -- A lent worker that sits on the bench may sit down at its desk.
+    pub may_sit : MaySitOn desk.region.now desk.place.bench w.member
+    may_sit = search (arith, at_home, tells_of)
 
--- there it rests as it did
-rests_there : {h : BenchHome} {desk : BenchDesk} {f : Profile} {k : ℕ} {worker : Worker} {later : Later} {p : Progress} → IsDeskAt h desk p
-    → (w : WorkerSits h.region h.row.actors f k worker later p)
-    → RestsAt f k (standing_on desk.place.bench w.member) (cached worker.cache) worker.out later p
-rests_there {h} {desk} {f} {k} {worker} {later} {p} at w = search (arith, tells_of, at_home) fits 400
+    -- there it rests as it did
+    rests_there : RestsAt f k (standing_on desk.place.bench w.member) (cached worker.cache) worker.out later p
+    rests_there = search (arith, tells_of, at_home) fits 400
 
--- A lent worker that has the desk rests there with its cache.
-pub rests_at : {h : BenchHome} {desk : BenchDesk} {f : Profile} {k : ℕ} {worker : Worker} {later : Later} {p : Progress} (now : BenchDesk) {member : Member}
-    → worker.member ≡ Some member → now.place.bench ≡ desk.place.bench → now.place.member ≡ member → IsDeskAt h desk p
-    → WorkerSits h.region h.row.actors f k worker later p → RestsAt f k (standing_at now) (cached worker.cache) worker.out later p
-rests_at {desk = desk} {f} {k} {worker} {later} {p} now is b m at w =
-    rw (b, m ∙ same_Some _ _ (sym is ∙ w.present)) (rests_there at w)
+    -- A lent worker that has the desk rests there with its cache.
+    pub rests_at : (now : BenchDesk) {member : Member} → worker.member ≡ Some member → now.place.bench ≡ desk.place.bench → now.place.member ≡ member
+        → RestsAt f k (standing_at now) (cached worker.cache) worker.out later p
+    rests_at now is b m = rw (b, m ∙ same_Some _ _ (sym is ∙ w.present)) rests_there
+
+-- the one that made way for another may take its place again
+pub may_again : {h desk p : _} → IsDeskAt h desk p → (mid : BenchDesk) (q : Progress) (risen : Member) → risen ≡ desk.place.member → home_at mid ≡ h
+    → StandsOver (row_on mid.place.bench) q.list → part desk.place.member.actor q.list ≡ part desk.place.member.actor p.list
+    → MaySitOn mid.region.now mid.place.bench risen
+may_again {h} {desk} {p} at mid q risen is home over same = search (arith, at_home, tells_of)
 
 -- A desk whose bench and region are as before has the same home.
 pub home_moved : (desk now : BenchDesk) → now.region.now ≡ desk.region.now → now.place.bench ≡ desk.place.bench → home_at now ≡ home_at desk
 home_moved desk now region bench = cc
-
--- the one that made way for it may take its place again
-pub may_again : {h : BenchHome} {desk : BenchDesk} {p : Progress} (mid : BenchDesk) (q : Progress) (risen : Member) → risen ≡ desk.place.member
-    → IsDeskAt h desk p → home_at mid ≡ h → StandsOver (row_on mid.place.bench) q.list
-    → part desk.place.member.actor q.list ≡ part desk.place.member.actor p.list
-    → MaySitOn mid.region.now mid.place.bench risen
-may_again {h} {desk} {p} mid q risen is at home over same = search (arith, at_home, tells_of)
 
 -- a worker that sat at the desk sits on the bench beside it
 pub sits_beside : {h : _} (mid : BenchDesk) {f k : _} {worker : Worker} {later q : _} → home_at mid ≡ h → worker.member ≡ Some mid.place.member
@@ -220,10 +201,6 @@ all_sat {region} {s} {old} {new} {p} {rows} {pass} desk looked all is scavenger 
     let actor = is.actor ∙ scavenger in
     search (arith, member_seat, made_seen, stands_first, sits_wider, is_among) fits 400
 
--- the order of the same actors
-order_as : {one other : ℕ → Bool} {told told' seen : Whole} → ((k : ℕ) → one k ≡ other k) → KeepsOrder one told told' seen → KeepsOrder other told told' seen
-order_as {one} {other} same o = search (arith, steps_by_same)
-
 -- ---- leaving
 -- the first ones left, up to this place
 pub record LeftSoFar (region : SharedRegion) (s : Shift) (all : List ℕ) (base : List Entry) (i : ℕ) (old now : List Worker) (rows : List Row)
@@ -252,24 +229,24 @@ module _ {region : SharedRegion} {s : Shift} {all : List ℕ} {base : List Entry
   -- While others have left, the next lent worker may leave the bench.
   pub leaves_next : MayLeave region rows (get_or now i d)
   leaves_next =
-      let member = next_sits.member in
-      let stood = next_sits.rests.sits.stood in
-      let actor = next_sits.rests.sits.actor in
+      let sits = next_sits.rests.sits in
       record {
-        member = member;
+        member = next_sits.member;
         present = next_sits.present;
         fresh = record { actors = so.actors; base = base; is = so.fresh };
-        profile = stood.profile;
-        sits = search (arith, is_there) fits 400;
+        profile = sits.stood.profile;
+        sits = record {
+          among_them = ap (λ (rs : List Row). among (first_row rs).actors next_sits.member.actor) so.fresh ∙ is_there next_sits.member sits.actor;
+          noted = rw (row_says next_sits.member sits.actor) sits.stood.noted;
+        };
       }
 
   -- it has its pass, and rests as it did
   has_again : {w : Worker} {rows' : List Row} → HasLeave region (get_or now i d) w rows rows' → IsLent region s i w p
   has_again {w} left =
-      let member = left.may.member in
-      let same : next_sits.member ≡ member = same_Some _ _ (sym next_sits.present ∙ left.may.present) in
+      let same : next_sits.member ≡ left.may.member = same_Some _ _ (sym next_sits.present ∙ left.may.present) in
       let rests = subst (λ m. RestsAt s.profile (number_in s i) (standing_among region all m) (cached (get_or now i d).cache) (get_or now i d).out (s.lends i) p) same next_sits.rests in
-      let sits = sits_as left.is.seat (λ stood. left.is.view ∙ row_says member rests.sits.actor) rests.sits in
+      let sits = sits_as left.is.seat (λ stood. left.is.view ∙ row_says left.may.member rests.sits.actor) rests.sits in
       record { has = left.has; rests = rw (left.but.out, left.but.cache) record { sits = sits; cache = rests.cache; spare = rests.spare } }
 
   -- After one more lent worker left with its pass, one more has left.
@@ -323,13 +300,7 @@ module _ {region : SharedRegion} {s : Shift} {lent : List Worker} {p : Progress}
   pub all_may_leave : (bench : Bench) (looked : HasLooked (rows_on desk.place.bench) (rows_on bench))
       → MayLeaveAll region s lent row.actors looked.base (rows_on bench) p
   all_may_leave bench looked =
-      let same : all_actors (rows_on desk.place.bench) ≡ row.actors = ap all_actors desk.place.one ∙ append-nil row.actors in
-      record {
-        lent = may.lent;
-        crew = may.crew;
-        fresh = looked.is ∙ ap (λ (ks : List ℕ). record { actors = ks; made = []; base = looked.base } ∷ []) same;
-        tell = λ k its. row_part row (steps_of looked.base) k (row_seen bench looked) its ∙ sym (row_tells row p.list k may.over its);
-      }
+      search (arith, row_part, row_tells, row_seen, append-nil)
 
   -- and at last the scavenger
   module _ (bench left : Bench) {now : List Worker} (looked : HasLooked (rows_on desk.place.bench) (rows_on bench))
@@ -378,13 +349,10 @@ module _ {region : SharedRegion} {s : Shift} {acts : List Act} {pass : SharedPas
   pub crew_left : {after bench new : _} → length sat1 ≡ length lent → length sat2 ≡ length sat1 → CrewRose region s now after bench sat2 new did.came.reached
       → CrewHasLeft region s acts after bench (crew (standing_of_pass pass) lent places out) (crew (standing_of_pass after) new places' out') p
   crew_left {after} {bench} {new} many more rose =
-      let row = row_on now.place.bench in
       let at = did.stands.stands in
       let grown = goes_on s.profile acts p did.came.reached did.came.reaches in
-      let same : (k : ℕ) → among row.actors k ≡ true → part k p.list ≡ part k (steps_of row.base) =
-      λ k its. sat.tell k (sym (ap (λ (h : BenchHome). among h.row.actors k) home) ∙ its) ∙ ap (λ (h : BenchHome). part k (steps_of h.row.base)) (sym home)
-      in
-      let order = keeps_order row rose.base grown.0 p.list did.came.reached.list rose.saw grown.1 at.stands.sits.stood.1 same in
+      let order = keeps_order (row_on now.place.bench) rose.base grown.0 p.list did.came.reached.list rose.saw grown.1 at.stands.sits.stood.1
+      (λ k its. sat.tell k (sym (ap (λ (h : BenchHome). among h.row.actors k) home) ∙ its) ∙ ap (λ (h : BenchHome). part k (steps_of h.row.base)) (sym home)) in
       record {
         of = rose.is.of;
         did = record {
@@ -401,6 +369,7 @@ module _ {region : SharedRegion} {s : Shift} {acts : List Act} {pass : SharedPas
           of = rose.of;
           base = rose.base;
           rows = rose.rows;
-          order = order_as (λ k. crew_among crew_may_rise.crew k) order;
+          order = subst (λ (chosen : ℕ → Bool). KeepsOrder chosen p.list did.came.reached.list (steps_of rose.base))
+              (λ j k. crew_among crew_may_rise.crew k j) order;
         };
       }

@@ -1,9 +1,8 @@
 -- Workers that are dealt into those of the threads that are chosen and the others, and taken back.
 use Rattle.std.proofs.Common.{◌≡◌, ℕ, zero, suc, ◌+◌, ◌<◌, not, Bool, true, false, if◌then◌else◌, List, [], ◌∷◌, ◌++◌, length, get_or, reverse, refl, ap, sym}
-use Rattle.std.proofs.{Common.{◌∙◌, subst, arith, append_assoc, append-nil, length-append, ◌≤◌}, lemmas.List.{get_or_default, reverse-append}}
-use Rattle.std.specs.List.{filter}
-use Rattle.pas_trace.{specs.{declared.plan.Op.Op, Acts.{is_active, numbers_from, idle_threads}}, proofs.ThreadsInOrder.numbers_count}
-use Rattle.pas_threads.specs.{Dealing.{picked, count_of, is_in, is_out, IsPut, AreSized}, Turns.AreDistinct, declared.workers.Worker.Worker}
+use Rattle.std.{proofs.{Common.{◌∙◌, subst, arith, append_assoc, append-nil, length-append, ◌≤◌}, lemmas.List.reverse-append}, specs.List.filter}
+use Rattle.pas_threads.proofs.Common.{get_or_default, Op, is_active, numbers_from, idle_threads, numbers_count, picked, count_of, is_in, is_out, AreSized}
+use Rattle.pas_threads.{proofs.Common.{AreDistinct, Worker}, specs.Dealing.IsPut}
 
 -- A place within a list has an item.
 pub some_item : {A : Type 0} (xs : List A) (i : ℕ) → i < length xs → A
@@ -70,10 +69,9 @@ number_at k (suc n) (suc i) lt = number_at (k + 1) n i (omega (arith, lt)) ∙ (
 filter_picked : (chosen at : ℕ → Bool) (k n : ℕ) → ((i : ℕ) → at i ≡ chosen (k + i)) → filter chosen (numbers_from k n) ≡ picked at (numbers_from k n)
 filter_picked chosen at k zero same = refl
 filter_picked chosen at k (suc n) same =
-    ap (λ (t : Bool). if t then k ∷ filter chosen (numbers_from (k + 1) n) else filter chosen (numbers_from (k + 1) n))
-    (ap chosen (let is : k ≡ k + 0 = omega arith in is) ∙ sym (same 0))
-    ∙ ap (λ (js : List ℕ). if at 0 then k ∷ js else js)
-    (filter_picked chosen (λ i. at (suc i)) (k + 1) n (λ i. same (suc i) ∙ ap chosen (let is : k + suc i ≡ k + 1 + i = omega arith in is)))
+    let here : at 0 ≡ chosen k = same 0 ∙ ap chosen (let is : k + 0 ≡ k = omega arith in is) in
+    let later = λ (i : ℕ). same (suc i) ∙ ap chosen (let is : k + suc i ≡ k + 1 + i = omega arith in is) in
+    cc (here, filter_picked chosen (λ i. at (suc i)) (k + 1) n later)
 
 -- ---- the threads that are idle
 module _ (threads : ℕ) (ops : List Op) where
@@ -121,8 +119,7 @@ Piles chosen k left hands lent all_hands all_lent = (hands ++ picked (behind (is
 
 all_left : (chosen : ℕ → Bool) (left : List Worker) {pile all : List Worker} → pile ≡ [] → all ≡ reverse left
     → pile ++ picked (behind chosen 0) (reverse left) ≡ picked chosen all
-all_left chosen left none is = ap (λ ws. ws ++ picked (behind chosen 0) (reverse left)) none
-    ∙ ap (λ (f : ℕ → Bool). picked f (reverse left)) (λ j i. chosen ((let at : 0 + i ≡ i = omega arith in at) j)) ∙ ap (picked chosen) (sym is)
+all_left chosen left none is = search arith
 
 -- While all are left, none of them is on a pile.
 pub piles_begin : (chosen : ℕ → Bool) (left : List Worker) {hands lent all : List Worker} → hands ≡ [] → lent ≡ [] → all ≡ reverse left
@@ -131,10 +128,7 @@ piles_begin chosen left none none' is = (all_left (is_in chosen) left none is, a
 
 -- While none is left, all are there.
 pub piles_end : (chosen : ℕ → Bool) (k : ℕ) (hands lent : List Worker) {left : List Worker} → left ≡ [] → Piles chosen k left hands lent hands lent
-piles_end chosen k hands lent none = (
-  ap (λ ws. hands ++ picked (behind (is_in chosen) k) (reverse ws)) none ∙ append-nil hands,
-  ap (λ ws. lent ++ picked (behind (is_out chosen) k) (reverse ws)) none ∙ append-nil lent,
-)
+piles_end chosen k hands lent none = (rw (none, append-nil), rw (none, append-nil))
 
 -- the last of those that are left is put there, or it isn't
 module _ (chosen : ℕ → Bool) (k n : ℕ) (is : n ≡ k + 1) (left : List Worker) {before : List Worker} (w : Worker) (last : before ≡ left ++ w ∷ []) where
@@ -144,25 +138,19 @@ module _ (chosen : ℕ → Bool) (k n : ℕ) (is : n ≡ k + 1) (left : List Wor
   next_picked : (t : Bool) → chosen k ≡ t
       → picked (behind chosen k) (reverse before) ≡ (if t then w ∷ picked (behind chosen n) (reverse left) else picked (behind chosen n) (reverse left))
   next_picked t on =
-      ap (λ ws. picked (behind chosen k) (reverse ws)) last ∙ ap (picked (behind chosen k)) (reverse-append left (w ∷ []))
-      ∙ ap (λ b. if b then w ∷ picked (λ i. behind chosen k (suc i)) (reverse left) else picked (λ i. behind chosen k (suc i)) (reverse left))
-      (ap chosen (let at : k + 0 ≡ k = omega arith in at) ∙ on)
-      ∙ ap (λ f. if t then w ∷ picked f (reverse left) else picked f (reverse left)) next_behind
+      let here : behind chosen k 0 ≡ t = ap chosen (let at : k + 0 ≡ k = omega arith in at) ∙ on in
+      rw (last, reverse-append left (w ∷ [])) (cc (here, next_behind))
 
   pile_next : (t : Bool) → chosen k ≡ t → (pile : List Worker) {pile' : List Worker} → pile' ≡ (if t then pile ++ w ∷ [] else pile)
       → pile ++ picked (behind chosen k) (reverse before) ≡ pile' ++ picked (behind chosen n) (reverse left)
-  pile_next true on pile put = ap (λ ws. pile ++ ws) (next_picked true on) ∙ sym (append_assoc pile (w ∷ []) (picked (behind chosen n) (reverse left)))
-      ∙ ap (λ ws. ws ++ picked (behind chosen n) (reverse left)) (sym put)
+  pile_next true on pile put = cc (next_picked true on, append_assoc pile (w ∷ []) (picked (behind chosen n) (reverse left)), put)
   pile_next false off pile put = ap (λ ws. pile ++ ws) (next_picked false off) ∙ ap (λ ws. ws ++ picked (behind chosen n) (reverse left)) (sym put)
 
 pile_sized : (chosen : ℕ → Bool) (k n : ℕ) (t : Bool) (pile pile' : List Worker) (w : Worker) → n ≡ k + 1 → chosen k ≡ t
     → pile' ≡ (if t then pile ++ w ∷ [] else pile) → length pile' ≡ count_of chosen n → length pile ≡ count_of chosen k
-pile_sized chosen k n true pile pile' w is on put size =
-    let more = ap (count_of chosen) (let at : n ≡ suc k = omega (arith, is) in at) ∙ count_more chosen k true on in
-    omega (arith, size, more, ap length put ∙ length-append pile (w ∷ []))
-pile_sized chosen k n false pile pile' w is off put size =
-    let more = ap (count_of chosen) (let at : n ≡ suc k = omega (arith, is) in at) ∙ count_more chosen k false off in
-    omega (arith, size, more, ap length put)
+pile_sized chosen k n t pile pile' w is on put size =
+    let more = ap (count_of chosen) (let at : n ≡ suc k = omega (arith, is) in at) ∙ count_more chosen k t on in
+    search (arith, size, more, ap length put, length-append, t)
 
 some_on : (chosen : ℕ → Bool) (k n : ℕ) (pile : List Worker) → n ≡ k + 1 → chosen k ≡ true → length pile ≡ count_of chosen n → 0 < length pile
 some_on chosen k n pile is on size =
@@ -170,33 +158,31 @@ some_on chosen k n pile is on size =
 
 -- One worker more makes a pile longer by one at most.
 pub put_few : (t : Bool) (w : Worker) (pile : List Worker) {pile' : List Worker} → pile' ≡ (if t then pile ++ w ∷ [] else pile) → length pile' ≤ length pile + 1
-put_few true w pile put = omega (arith, ap length put ∙ length-append pile (w ∷ []))
-put_few false w pile put = omega (arith, ap length put)
+put_few t w pile put = search (arith, ap length put, length-append, t)
 
 module _ (chosen : ℕ → Bool) (k n : ℕ) (t : Bool) (is : n ≡ k + 1) (on : is_in chosen k ≡ t) where
   -- The last of those that are left is put there.
   pub piles_go_on : (left hands lent : List Worker) {before hands' lent' ins outs : List Worker} (w : Worker) → before ≡ left ++ w ∷ []
       → IsPut t w hands lent hands' lent' → Piles chosen k before hands lent ins outs → Piles chosen n left hands' lent' ins outs
-  piles_go_on left hands lent w last put piles = (
-    sym (pile_next (is_in chosen) k n is left w last t on hands put.0) ∙ piles.0,
-    sym (pile_next (is_out chosen) k n is left w last (not t) (ap not on) lent put.1) ∙ piles.1,
-  )
+  piles_go_on left hands lent w last put piles =
+      let own = pile_next (is_in chosen) k n is left w last t on hands put.0 in
+      let others = pile_next (is_out chosen) k n is left w last (not t) (ap not on) lent put.1 in
+      (sym own ∙ piles.0, sym others ∙ piles.1)
 
   -- .. or it is taken back
   pub piles_go_back : (left hands lent : List Worker) {before hands' lent' ins outs : List Worker} (w : Worker) → before ≡ left ++ w ∷ []
       → IsPut t w hands lent hands' lent' → Piles chosen n left hands' lent' ins outs → Piles chosen k before hands lent ins outs
-  piles_go_back left hands lent w last put piles = (
-    pile_next (is_in chosen) k n is left w last t on hands put.0 ∙ piles.0,
-    pile_next (is_out chosen) k n is left w last (not t) (ap not on) lent put.1 ∙ piles.1,
-  )
+  piles_go_back left hands lent w last put piles =
+      let own = pile_next (is_in chosen) k n is left w last t on hands put.0 in
+      let others = pile_next (is_out chosen) k n is left w last (not t) (ap not on) lent put.1 in
+      (own ∙ piles.0, others ∙ piles.1)
 
   -- Then there are as many of both as of the threads before it.
   pub sized_back : (hands lent : List Worker) {hands' lent' : List Worker} (w : Worker) → IsPut t w hands lent hands' lent' → AreSized chosen n hands' lent'
       → AreSized chosen k hands lent
-  sized_back hands lent {hands'} {lent'} w put sized = (
-    pile_sized (is_in chosen) k n t hands hands' w is on put.0 sized.0,
-    pile_sized (is_out chosen) k n (not t) lent lent' w is (ap not on) put.1 sized.1,
-  )
+  sized_back hands lent {hands'} {lent'} w put sized =
+      let own = pile_sized (is_in chosen) k n t hands hands' w is on put.0 sized.0 in
+      (own, pile_sized (is_out chosen) k n (not t) lent lent' w is (ap not on) put.1 sized.1)
 
   -- It is there to be taken.
   pub one_there : (hands lent : List Worker) → AreSized chosen n hands lent → (t ≡ true → 0 < length hands) × (t ≡ false → 0 < length lent)

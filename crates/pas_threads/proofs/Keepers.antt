@@ -1,24 +1,18 @@
 -- The keepers of workers: how those of a plan are made, how they stand on while others act and over a phase, what is gathered of them, and their last sweeps.
 use Rattle.std.proofs.Common.{◌≡◌, ℕ, suc, ◌+◌, ◌*◌, ◌<◌, ◌≤◌, ◌==◌, min, Bool, true, false, if◌then◌else◌, List, [], ◌∷◌, ◌++◌, length, get_or, slice_index}
 use Rattle.std.proofs.Common.{inl, inr, Option, Some, refl, ap, sym, ◌∙◌, subst, arith, ◌-◌, ◌^◌, eq-eqb, ne_eqb, ◌≢◌, None, append-nil, drop}
-use Rattle.std.proofs.{Common.{drop_of_length-le, length-drop, is_some, true≢false}, Math.Nat.{le-min, mul-le-mul}, lemmas.Bool.{cases_lt, cases_eq}}
-use Rattle.std.proofs.lemmas.{Bool.false≢true, List.{get_or-map, drop_more}}
-use Rattle.pas_profile.specs.declared.profile.Profile.{Profile}
-use Rattle.pas_trace.specs.{Plans.{IsPlanOf, bounds_of}, EveryPlan.{kept_records, records_of_ops, operations_of}, declared.plan.{Op.Op, Plan.Plan}, Acts.Act}
-use Rattle.pas_trace.{specs.{Acts.own_acts, Reasons.{cost_of_size, actors_by}}, proofs.{EveryPlan.{every_plan, threads_among}, Costs.{small_cost, large_cost}}}
-use Rattle.pas_trace.proofs.Keepers.{keepers_few}
+use Rattle.std.proofs.{Common.{drop_of_length-le, length-drop, is_some, true≢false}, Math.Nat.{le-min, mul-le-mul}}
+use Rattle.pas_threads.proofs.Common.{cases_lt, false≢true, get_or-map, drop_more, Profile, IsPlanOf, bounds_of, kept_records, records_of_ops, Op, Plan, Act}
+use Rattle.pas_threads.proofs.Common.{own_acts, every_plan, SharedPass, SharedRegion, threads_of, keepers_of, Progress, records_by, all_front, all_back}
+use Rattle.pas_threads.proofs.Common.{guarded_of, owner_in, LaterKept, Keeping, for_guards, AreTriedBy, AreUnguarded, KeeperWaits, KeptPushed, is_guarded}
+use Rattle.pas_threads.proofs.Common.{own_thread, kept_thread, owner_of, AreKeptBy, most_records, AreGuarded, kept_by_worker, IsKeeperOf, no_more, owed_kept}
+use Rattle.pas_threads.proofs.Common.{keeper_at, IsLow, KeeperStands, KeeperRests, Keeper, Worker, HasSaid, Round, ThreadDone, part, Record}
+use Rattle.pas_threads.{proofs.{TakingTurns.each_pushed, Dealt.some_item}, specs.{Kits.{IsKeptBy, HaveKeepers, TakesKeeper}, Pairs.{said_by_keeper, IsSilent}}}
 use Rattle.pas_guard.specs.{Books.{guards_in, size_of_book}, declared.book.GuardBook.GuardBook}
-use Rattle.pas_shared.specs.declared.{pass.SharedPass.SharedPass, region.SharedRegion.SharedRegion}
-use Rattle.pas_answers.{specs.{Replays.{threads_of, keepers_of}, Answers.Progress, Ways.{records_by, is_of}}, proofs.EachAct.{all_front, all_back}}
-use Rattle.pas_acts.specs.{PlanKeepers.{guarded_of, AreBooks}, Shares.owner_in, Keepers.{LaterKept, Keeping, OneKeeper, NoKeeper}, Pairs.for_guards}
-use Rattle.pas_acts.{specs.Pairs.{AreTriedBy, AreUnguarded, KeeperWaits, KeptPushed, for_guard, EachOfTwo, KeptStill, owed_of}, proofs.PlanFacts.is_guarded}
-use Rattle.pas_acts.proofs.{PhaseActs.{own_thread, kept_thread, owner_of}, AtDesk.keeper_still}
-use Rattle.pas_threads.specs.{Kits.{IsKeptBy, AreKeptBy, most_records, HaveKeepers, TakesKeeper}, Pairs.{AreGuarded, kept_by_worker, IsKeeperOf, no_more}}
-use Rattle.pas_threads.specs.{Pairs.{owed_kept, keeper_at, IsLow, KeeperStands, KeeperRests, said_by_keeper, IsSilent}, declared.keeper.Keeper.Keeper}
-use Rattle.pas_threads.{specs.{declared.workers.Worker.Worker, Turns.HasSaid, Performing.{Round, ThreadDone}}, proofs.TakingTurns.each_pushed}
-use Rattle.pas_threads.proofs.Dealt.{some_item}
-use Rattle.pas_steps.specs.Lists.{part}
-use Rattle.pas_records.specs.declared.record.Record.{Record}
+use Rattle.pas_trace.{specs.{EveryPlan.operations_of, Reasons.{cost_of_size, actors_by}}, proofs.{EveryPlan.threads_among, Costs.{small_cost, large_cost}}}
+use Rattle.pas_trace.proofs.Keepers.{keepers_few}
+use Rattle.pas_answers.specs.Ways.{is_of}
+use Rattle.pas_acts.{specs.{PlanKeepers.AreBooks, Keepers.{OneKeeper, NoKeeper}, Pairs.{for_guard, EachOfTwo, KeptStill, owed_of}}, proofs.AtDesk.keeper_still}
 
 -- ---- what they may say
 two_least : (size : ℕ) → 2 ≤ cost_of_size size
@@ -52,10 +46,7 @@ keeper_room {text} {plan} i room read lt few is =
 -- ---- their passes and books
 -- behind the first of those from a place on are those from the next place on
 rest_next : {A : Type 0} (xs rest : List A) (i : ℕ) (x : A) → drop i xs ≡ x ∷ rest → rest ≡ drop (i + 1) xs
-rest_next {A} xs rest i x is = elim (cases_lt i (length xs)) [
-  | inl lt ↦ ap (λ (ys : List A). elim ys [ [] ↦ [] | y ∷ others ↦ others ]) (sym is ∙ drop_more xs i x lt)
-  | inr past ↦ absurd (let some = ap length is in omega (arith, past, some, length-drop i xs))
-]
+rest_next {A} xs rest i x is = let lt : i < length xs = omega (arith, ap length is, length-drop i xs) in cc (drop_more xs i x lt)
 
 none_next : {A : Type 0} (xs : List A) (i : ℕ) → drop i xs ≡ [] → drop (i + 1) xs ≡ []
 none_next xs i none = drop_of_length-le xs (let none_left = ap length none in omega (arith, none_left, length-drop i xs))
@@ -64,8 +55,7 @@ none_next xs i none = drop_of_length-le xs (let none_left = ap length none in om
 pub keeper_next : {left left' : List SharedPass} {more more' : List GuardBook} (passes : List SharedPass) (books : List GuardBook) (bound i : ℕ)
     (o : Option Keeper) → left ≡ drop i passes → more ≡ drop i books → TakesKeeper left left' more more' bound o
     → IsKeptBy passes books bound i o × (left' ≡ drop (i + 1) passes) × (more' ≡ drop (i + 1) books)
-keeper_next passes books bound i None one two takes = search (arith, none_next) fits 400
-keeper_next {left' = left'} {more' = more'} passes books bound i (Some keeper) one two takes = search (arith, rest_next) fits 400
+keeper_next passes books bound i o one two takes = search (arith, none_next, rest_next)
 
 -- So it is of one worker more.
 pub kept_more : {bounds threads passes books workers after : _} (w : Worker) → after ≡ workers ++ w ∷ [] → AreKeptBy bounds threads passes books workers
@@ -97,18 +87,12 @@ kept_past passes books bound i None kept le = refl
 kept_past passes books bound i (Some keeper) kept le = absurd (let some = ap length kept.0 in omega (arith, some, length-drop i passes, le))
 
 -- all workers of a guarded plan have a keeper, and none of another one
-guarded_so : (plan : Plan) {bounds passes books workers : _} → AreKeptBy bounds (threads_of plan) passes books workers → length passes ≡ keepers_of plan
-    → length workers ≡ threads_of plan → AreGuarded (keepers_of plan) workers
-guarded_so plan {bounds} {passes} {books} {workers} are size many =
-    elim (cases_eq plan.guard 0) [
-      | inl is ↦
-          let zero_of : keepers_of plan ≡ 0 = ap (λ (t : Bool). if t then 0 else threads_of plan) (eq-eqb plan.guard 0 is) in
-          (false, zero_of, λ i d lt. kept_past passes books _ i (get_or workers i d).keeper (are.each i d lt) (omega (arith, size, zero_of)))
-      | inr other ↦
-          let all : keepers_of plan ≡ threads_of plan = ap (λ (t : Bool). if t then 0 else threads_of plan) (ne_eqb plan.guard 0 other) in
-          let most : length workers ≡ length passes = omega (arith, many, all, size) in
-          (true, omega (arith, all, many), λ i d lt. kept_some passes books _ i (get_or workers i d).keeper (are.each i d lt) (omega (arith, lt, most)))
-    ]
+guarded_so : (plain : Bool) {keepers : ℕ} {bounds threads passes books workers : _} → AreKeptBy bounds threads passes books workers
+    → keepers ≡ (if plain then 0 else length workers) → length passes ≡ keepers → AreGuarded keepers workers
+guarded_so true {passes = passes} {books} {workers} are is size =
+    (false, is, λ i d lt. kept_past passes books _ i (get_or workers i d).keeper (are.each i d lt) (omega (arith, is, size)))
+guarded_so false {passes = passes} {books} {workers} are is size =
+    (true, is, λ i d lt. kept_some passes books _ i (get_or workers i d).keeper (are.each i d lt) (omega (arith, is, size, lt)))
 
 -- The workers of a guarded plan have the keepers of the plan, each with its pass, its empty book and room.
 pub have_keepers : {text : List ℕ} {plan : Plan} (passes : List SharedPass) (books : List GuardBook) {workers : List Worker} → IsPlanOf text plan
@@ -116,14 +100,13 @@ pub have_keepers : {text : List ℕ} {plan : Plan} (passes : List SharedPass) (b
     → length passes ≡ keepers_of plan → length workers ≡ threads_of plan → HaveKeepers plan passes workers
 have_keepers {plan = plan} passes books {workers} read few are made size many = (
   size,
-  guarded_so plan are size many,
+  guarded_so (plan.guard == 0) are (ap (λ n. if plan.guard == 0 then 0 else n) (sym many)) size,
   λ i d e lt.
       let kept = are.each i e (omega (arith, lt, many, keepers_few plan)) in
       let some = kept_there (get_or workers i e).keeper (kept_some passes books _ i (get_or workers i e).keeper kept (omega (arith, lt, size))) in
       let by = subst (IsKeptBy passes books (most_records (slice_index (bounds_of plan.bounds) (threads_of plan + suc i))) i) some.1 kept in
-      let count = made.many in
-      let b = some_item books i (omega (arith, lt, count)) in
-      let book_is = ap (λ bs. get_or bs 0 b) (sym by.1 ∙ drop_more books i b (omega (arith, lt, count))) in
+      let b = some_item books i (omega (arith, lt, made.many)) in
+      let book_is = ap (λ bs. get_or bs 0 b) (sym by.1 ∙ drop_more books i b (omega (arith, lt, made.many))) in
       record {
         there = some.0;
         present = some.1;
@@ -146,12 +129,7 @@ guards_both [] ys later = refl
 guards_both (x ∷ xs) ys later = ap (for_guard x) (guards_both xs ys later)
 
 -- ---- a keeper that waits
--- for the first acts, with room for the others
-waits_front : (f : Profile) (k : ℕ) (xs ys : List Act) (kept : Keeping) (later : LaterKept) (p : Progress) → KeeperWaits f k (xs ++ ys) kept later p
-    → KeeperWaits f k xs kept (for_guards ys later) p
-waits_front f k xs ys a later p waits = search (arith, all_front, guards_both)
-
--- .. for which it waits then
+-- for which acts it waits then
 abbrev pub WillWait : ℕ → List Act → Keeping → Type 0
 WillWait k ys NoKeeper = AreUnguarded ys
 WillWait k ys (OneKeeper has) = AreTriedBy k ys
@@ -202,8 +180,7 @@ two_counted k keeper (r ∷ rs) apart each =
     elim each.0 [
       | inl of ↦ search (arith, rest, of k ∙ eq-eqb k k refl, of keeper ∙ ne_eqb k keeper apart, is_of k r, is_of keeper r, true≢false)
       | inr of ↦
-          let other = of k ∙ ne_eqb keeper k (λ (is : keeper ≡ k). apart (sym is)) in
-          search (arith, rest, other, of keeper ∙ eq-eqb keeper keeper refl, is_of k r, is_of keeper r, true≢false)
+          search (arith, ne_eqb, eq-eqb)
     ]
 
 -- ---- what is gathered of it
@@ -235,8 +212,8 @@ stands_for {region} {f} {k} {later} {p} o keeper is of waits = search arith
 
 -- There are no more keepers than workers.
 pub most_keepers : {keepers : ℕ} (old : List Worker) → AreGuarded keepers old → keepers ≤ length old
-most_keepers old (true, many, all) = omega (arith, many)
-most_keepers old (false, none, all) = omega (arith, none)
+-- With a keeper each and without any.
+most_keepers {keepers} old guarded = search arith
 
 -- ---- whose hands a keeper is in
 pub kept_hands : (threads : ℕ) (ops : List Op) (i : ℕ) → suc i ≤ threads → owner_in threads ops (threads + suc i) ≡ owner_in threads ops (suc i)
@@ -256,11 +233,8 @@ alike_said a b said = search arith
 pub guarded_alike : {keepers : ℕ} (old new : List Worker) → length new ≡ length old
     → ((i : ℕ) (d : Worker) → i < length old → is_some (get_or new i d).keeper ≡ is_some (get_or old i d).keeper) → AreGuarded keepers old
     → AreGuarded keepers new
-guarded_alike old new many alike (guarded, size, all) = (
-  guarded,
-  size ∙ ap (λ (n : ℕ). if guarded then n else 0) (sym many),
-  λ i d lt. let here : i < length old = omega (arith, lt, many) in alike i d here ∙ all i d here,
-)
+-- With a keeper each and without any.
+guarded_alike {keepers} old new many alike guarded = search arith
 
 -- ---- what it said in all
 -- What a keeper said is the same where its records are.
@@ -277,8 +251,8 @@ said_then k said a b pushed silent = search arith
 pub kept_waits : {region f keeper : _} (k : ℕ) (ops left : List Op) (o : Option Keeper) {p : _} → KeeperRests region f keeper (own_acts k (ops ++ left)) o p
     → KeeperWaits f keeper (own_acts k ops) (kept_by_worker o) (for_guards (own_acts k left) no_more) p
 kept_waits {f = f} {keeper} k ops left o {p} rests =
-    waits_front f keeper (own_acts k ops) (own_acts k left) (kept_by_worker o) no_more p
-    (subst (λ acts. KeeperWaits f keeper acts (kept_by_worker o) no_more p) (own_acts_both k ops left) rests.waits)
+    let waits = subst (λ acts. KeeperWaits f keeper acts (kept_by_worker o) no_more p) (own_acts_both k ops left) rests.waits in
+    search (arith, all_front, guards_both, kept_by_worker o, waits)
 
 -- A keeper that rests will wait for the requests of the phases that are left.
 pub kept_will : {region : SharedRegion} {f : Profile} {keeper : ℕ} (k : ℕ) (ops left : List Op) (o : Option Keeper) {p : Progress}

@@ -1,3 +1,4 @@
+mod Common
 mod Benched
 mod CrewSits
 mod ByCrew

@@ -1,81 +1,64 @@
 -- What hands did in a phase, and what the names are after it.
-use Rattle.std.proofs.Common.{⊎_elim, ◌≡◌, ℕ, ◌+◌, ◌<◌, ◌==◌, ◌⊎◌, inl, inr, Bool, true, false, if◌then◌else◌, List, [], ◌∷◌, set, length, get_or, Option, Some}
+use Rattle.std.proofs.Common.{⊎_elim, ◌≡◌, ℕ, ◌+◌, ◌<◌, ◌==◌, ◌⊎◌, inl, inr, Bool, true, false, if◌then◌else◌, List, [], ◌∷◌, length, get_or, Option, Some}
 use Rattle.std.proofs.Common.{None, refl, ap, sym, ◌∙◌, subst, arith, ◌≤◌, ◌++◌, eq-eqb, ◌≢◌, zero, suc, ◌-◌, All, append-nil, true≢false, ne_eqb, not}
-use Rattle.std.proofs.lemmas.{List.get_or_default, Bool.{cases_eq, false≢true, or_right, or_cases, cases_Bool, cases_lt, not-true, lt-leb}}
-use Rattle.pas_profile.specs.declared.{profile.Profile.Profile, name.Block.Block}
-use Rattle.pas_trace.specs.{EveryPlan.{is_asked, asked_after, AreSound, asked_with, asked_by, IsActorOf}, Asked.{work_of, of_task, request_of}}
-use Rattle.pas_trace.specs.{declared.plan.{What.What, Chore.Chore, Work.Work, Op.Op}, Acts.{Act, act_kept, is_active, idle_threads, idle_stops, acts_of_chore}}
-use Rattle.pas_trace.specs.Acts.{acts_of_work, acts_of_ops, own_acts, scavenger_acts, operation_in, asked_after_operation, acts_of_op}
-use Rattle.pas_trace.proofs.{ThreadsInOrder.numbers_count, EveryPlan.kept_with}
-use Rattle.pas_answers.specs.{Answers.{Named, Progress, standing_for}, Names.{block_named, names_held}, Calls.{OnlyAsked, block_behind, MayStand, AreKnown}}
-use Rattle.pas_answers.{specs.{Fit.{AreBelow, KeepsAbove}, declared.names.Names.Names}, proofs.EachAct.all_back}
-use Rattle.pas_acts.specs.NameBooks.{requests_in, room_for, names_of, known_in, Requests, names_asked, AreWithin, NamesAt, came_to, name_asked}
-use Rattle.pas_acts.specs.{declared.names.NameBook.NameBook, Shares.{owner_in, IsWoven, acts_by, AreAmong, IsRequestOf, NoneAsks, asked_after_act}}
-use Rattle.pas_acts.{specs.{Shares.{asked_after_acts, AreInHand, thread_in}, Pairs.{PairWorks, KeeperWaits}}, proofs.Naming.{sound_front, are_known}}
-use Rattle.pas_acts.proofs.{Naming.sound_back, AtDesk.sits_for, PhaseActs.{acts_are_shared, own_thread, owner_of, none_own}, ActsOfPlan.back_below, Noting.asks}
-use Rattle.pas_acts.proofs.Noting.{asks_more}
-use Rattle.pas_threads.specs.{declared.{workers.Worker.Worker, scavenger.Scavenger.Scavenger, keeper.Keeper.Keeper}, Taken.{IsEmptied, HasTaken, HandsOver}}
-use Rattle.pas_threads.specs.{Taken.HasRequest, Hands.{kept_by, standing_of_pass, WorkerAt, Did}, Sessions.WorkerHas, Turns.{Came, Told, TookNoPart}}
-use Rattle.pas_threads.specs.{Crews.{Crew, CrewAt, CrewDid}, Scavengers.{crew_of, DidScavenge, ScavengerStands}, Lent.{Shift, IsLent, AreLent}, Left.pair_in}
-use Rattle.pas_threads.specs.{Left.{crew_in, HasLeft, keeper_actors}, Dealing.{count_of, is_in, is_out, AreDealt}, Performing.{Round, idle_in, IsReady}}
-use Rattle.pas_threads.specs.{Performing.{ThreadDone, PaysFor, PieceLeft}, Pairs.{kept_by_worker, owed_kept, MayDoPhase, DidPhase, DidPhases, PairStands}}
-use Rattle.pas_threads.{specs.Pairs.PairDid, proofs.{TakingTurns.{set_each, came_none}, Benched.{among_cases, among_here, among_later}, CrewSits.among_at}}
-use Rattle.pas_threads.proofs.{CrewSits.among_place, Dealt.{some_item, picked_many, dealt_at, dealt_from, idle_at, idle_from, idle_are, idle_distinct}}
-use Rattle.pas_threads.proofs.{Keepers.{two_counted, owed_same, owed_still, kept_none, still_same, waits_still, kept_hands}, ByCrew.{came_as, did_none}}
-use Rattle.pas_shared.specs.{declared.region.SharedRegion.SharedRegion, Ruled.among}
+use Rattle.std.proofs.lemmas.Bool.{or_cases, not-true, lt-leb}
+use Rattle.pas_threads.proofs.Common.{get_or_default, false≢true, or_right, cases_Bool, cases_lt, Profile, asked_after, AreSound, work_of, Chore, Work, Op, Act}
+use Rattle.pas_threads.proofs.Common.{act_kept, is_active, idle_threads, idle_stops, acts_of_chore, acts_of_ops, own_acts, scavenger_acts, numbers_count}
+use Rattle.pas_threads.proofs.Common.{Progress, names_held, OnlyAsked, all_back, requests_in, room_for, names_asked, NamesAt, NameBook, owner_in, IsWoven}
+use Rattle.pas_threads.proofs.Common.{acts_by, PairWorks, KeeperWaits, sound_front, sits_for, acts_are_shared, own_thread, owner_of, Worker, Scavenger, Keeper}
+use Rattle.pas_threads.proofs.Common.{HasTaken, HandsOver, kept_by, standing_of_pass, WorkerAt, Did, WorkerHas, Came, Told, TookNoPart, Crew, CrewAt, crew_of}
+use Rattle.pas_threads.proofs.Common.{Shift, IsLent, AreLent, pair_in, crew_in, HasLeft, keeper_actors, count_of, is_in, is_out, AreDealt, Round, IsReady}
+use Rattle.pas_threads.proofs.{Common.{ThreadDone, kept_by_worker, owed_kept, MayDoPhase, SharedRegion, among}, TakingTurns.came_none, Benched.among_cases}
+use Rattle.pas_threads.proofs.{Benched.{among_here, among_later}, CrewSits.{among_at, among_place}, Dealt.{some_item, picked_many, dealt_at, dealt_from}}
+use Rattle.pas_threads.proofs.{Dealt.{idle_at, idle_from, idle_are, idle_distinct}, Keepers.{two_counted, owed_same, owed_still, kept_none, still_same}}
+use Rattle.pas_threads.{proofs.{Keepers.{waits_still, kept_hands}, ByCrew.{came_as, did_none}}, specs.{Performing.{idle_in, PieceLeft}, Taken.HasRequest}}
+use Rattle.pas_threads.specs.{Crews.CrewDid, Scavengers.{DidScavenge, ScavengerStands}, Pairs.{DidPhase, DidPhases, PairStands}}
+use Rattle.pas_trace.specs.{Acts.{acts_of_work, operation_in, asked_after_operation, acts_of_op}, EveryPlan.{is_asked, asked_with, asked_by, IsActorOf}}
+use Rattle.pas_trace.{specs.{Asked.{of_task, request_of}, declared.plan.What.What}, proofs.EveryPlan.kept_with}
+use Rattle.pas_profile.specs.declared.name.Block.{Block}
+use Rattle.pas_answers.specs.{Answers.{Named, standing_for}, Names.block_named, Calls.{block_behind, MayStand}, Fit.{AreBelow, KeepsAbove}}
+use Rattle.pas_answers.specs.declared.names.Names.{Names}
+use Rattle.pas_acts.specs.{NameBooks.{names_of, known_in, AreWithin, came_to, name_asked}, Shares.{AreAmong, IsRequestOf, NoneAsks, asked_after_act}}
+use Rattle.pas_acts.{specs.Shares.{asked_after_acts, AreInHand, thread_in}, proofs.{Naming.{are_known, sound_back}, PhaseActs.none_own, ActsOfPlan.back_below}}
+use Rattle.pas_acts.proofs.Noting.{asks, asks_more}
 
 -- ---- all workers, one after the other
--- a request of these has the name, and what it came to is the same whatever else is said; or none has it
-has_or_not : (rs : List Named) (n : ℕ)
-    → ((is_asked (names_of rs) n ≡ true) × ((x y : Option Block) → came_to (standing_for rs n) x ≡ came_to (standing_for rs n) y))
-    ⊎ ((is_asked (names_of rs) n ≡ false) × (standing_for rs n ≡ None))
-has_or_not [] n = inr (refl, refl)
-has_or_not (r ∷ rs) n = search (arith, r.name == n, has_or_not rs n)
+-- what a request of these came to that has the name is the same whatever else is said
+same_to_all : (rs : List Named) (n : ℕ) → is_asked (names_of rs) n ≡ true → (x y : Option Block) → came_to (standing_for rs n) x ≡ came_to (standing_for rs n) y
+same_to_all [] n has x y = absurd (false≢true has)
+same_to_all (r ∷ rs) n has x y = search (arith, r.name == n, same_to_all rs n)
 
--- .. as far as the workers before this place
-abbrev pub TakenUpTo : NameBook → NameBook → List Worker → ℕ → ℕ → Type 0
-TakenUpTo before after workers many n =
-    ((i : ℕ) × (i < many) × ((d : Worker) → HasRequest (get_or workers i d) n × (block_named after.names n ≡ known_in before (get_or workers i d).requests n)))
-    ⊎ (((i : ℕ) (d : Worker) → i < many → HasRequest (get_or workers i d) n → ⊥) × (block_named after.names n ≡ block_named before.names n))
+-- .. and where none has it, the name stands for nothing here
+none_stands : (rs : List Named) (n : ℕ) → is_asked (names_of rs) n ≡ false → standing_for rs n ≡ None
+none_stands [] n none = refl
+none_stands (r ∷ rs) n none = search (arith, r.name == n, none_stands rs n)
 
--- A name of one worker's requests that the book took is taken of one worker more.
-pub taken_more : (before now after : NameBook) (workers : List Worker) (i n : ℕ) (w : Worker) → i < length workers → ((d : Worker) → w ≡ get_or workers i d)
-    → block_named after.names n ≡ known_in now w.requests n
-    → TakenUpTo before now workers i n → TakenUpTo before after workers (i + 1) n
-taken_more before now after workers i n w lt is takes so = elim (has_or_not (requests_in w.requests) n) [
-  | inl has ↦ inl (
-    i,
-    omega arith,
-    λ d. (subst (λ x. HasRequest x n) (is d) has.0, takes ∙ has.1 (block_named now.names n) (block_named before.names n) ∙ ap (λ (x : Worker). known_in before x.requests n) (is d)),
+none_has : (n : ℕ) (w : Worker) (ws : List Worker) → is_asked (names_of (requests_in w.requests)) n ≡ false
+    → ((i : ℕ) (d : Worker) → i < length ws → HasRequest (get_or ws i d) n → ⊥)
+    → (i : ℕ) (d : Worker) → i < length (w ∷ ws) → HasRequest (get_or (w ∷ ws) i d) n → ⊥
+none_has n w ws none others zero d lt has = false≢true (sym none ∙ has)
+none_has n w ws none others (suc i) d lt has = others i d (omega (arith, lt)) has
+
+-- The book took the requests of the first of these workers, and then those of the others.
+pub taken_first : (before mid after : NameBook) (w : Worker) (ws : List Worker) → ((n : ℕ) → block_named mid.names n ≡ known_in before w.requests n)
+    → HasTaken mid after ws → HasTaken before after (w ∷ ws)
+taken_first before mid after w ws takes later n = elim (later n) [
+  | inl one ↦ inl (
+    suc one.0,
+    omega (arith, one.1),
+    λ d. (
+      (one.2 d).0,
+      (one.2 d).1 ∙ same_to_all (requests_in (get_or ws one.0 d).requests) n (one.2 d).0 (block_named mid.names n) (block_named before.names n),
+    ),
   )
-  | inr none ↦
-      let same : block_named after.names n ≡ block_named now.names n = takes ∙ ap (λ (o : Option (Option Block)). came_to o (block_named now.names n)) none.1 in
-      elim so [
-        | inl one ↦ inl (one.0, omega (arith, one.1), λ d. ((one.2 d).0, same ∙ (one.2 d).1))
-        | inr all ↦ inr (
-          λ j d low has. elim (cases_eq j i) [
-            | inl here ↦ false≢true (sym none.0 ∙ subst (λ x. HasRequest x n) (sym (is d)) (subst (λ (m : ℕ). HasRequest (get_or workers m d) n) here has))
-            | inr other ↦ all.0 j d (omega (arith, low, other)) has
-          ],
-          same ∙ all.1,
-        )
-      ]
+  | inr none ↦ elim (cases_Bool (is_asked (names_of (requests_in w.requests)) n)) [
+    | inl has ↦ inl (0, omega arith, λ d. (has, none.1 ∙ takes n))
+    | inr hasnt ↦ inr (
+      none_has n w ws hasnt none.0,
+      none.1 ∙ takes n ∙ ap (λ o. came_to o (block_named before.names n)) (none_stands (requests_in w.requests) n hasnt),
+    )
+  ]
 ]
-
--- the worker with these requests
-abbrev pub with_requests : Worker → Requests → Worker
-with_requests w rs = record { pass = w.pass; cache = w.cache; requests = rs; out = w.out; keeper = w.keeper; member = w.member; bench = w.bench }
-
--- The worker whose requests were taken is emptied, as those before it.
-pub emptied_more : (old now : List Worker) (i : ℕ) (e : Worker) (rs : Requests) → i < length now → get_or now i e ≡ get_or old i e → i < length old
-    → requests_in rs ≡ [] → room_for rs ≡ room_for (get_or now i e).requests
-    → ((j : ℕ) (d : Worker) → j < i → IsEmptied (get_or old j d) (get_or now j d)) → (j : ℕ) (d : Worker) → j < i + 1
-    → IsEmptied (get_or old j d) (get_or (set now i (with_requests (get_or now i e) rs)) j d)
-emptied_more old now i e rs lt left lt' none room so j d low =
-    let was = left ∙ get_or_default old i e d lt' in
-    set_each (λ (m : ℕ) (w : Worker). IsEmptied (get_or old m d) w) now i (with_requests (get_or now i e) rs) d j lt
-    (search arith fits 400)
-    (λ ne. so j d (omega (arith, low, ne)))
 
 -- ---- what acts ask for
 
@@ -239,8 +222,7 @@ module _ {f : Profile} {book : NameBook} {p q : Progress} {own : ℕ → Progres
       below = subst (λ (limit : ℕ). AreBelow limit rest) (sym (held ∙ ap names_held noted)) (back_below (names_held book.names) phase rest at.below);
       tells = λ n. (book_says n).0;
       stand = λ n. (book_says n).1;
-      known = subst (λ (ns : List ℕ). AreKnown ns after) asked_is
-          (are_known f (acts_of_ops (idle_threads threads phase) phase) at.asked q woven.reached woven.reaches (subst (AreKnown at.asked) (sym are) at.known));
+      known = search (arith, asked_is, are_known);
       only = subst (λ (ns : List ℕ). OnlyAsked ns after) asked_is woven.only_asked;
     },
     refl,
@@ -251,18 +233,9 @@ has_left : {region book f k worker later p : _} → WorkerAt region book f k [] 
 has_left at = let spare = at.stands.spare in record { has = at.has; rests = record { sits = sits_for at.stands.sits (omega arith); cache = at.stands.cache; spare = omega (arith, spare) } }
 
 -- ---- a thread with an operation
--- what the two said, with what they owe then, is paid for by what they owed and the acts
-pair_paid : {region : SharedRegion} (r : Round) (k : ℕ) (old new : Worker)
-    (at : PairStands region r.book r.profile r.threads k (own_acts k r.ops) old (r.later k) (r.more k) r.start)
-    → 1 ≤ r.threads
-    → (did : PairDid region r.book r.profile r.threads k (own_acts k r.ops) old new (r.later k) (r.more k) r.start)
-    → PaysFor r k old new did.did.does.said did.did.does.reached
-pair_paid r k old new at some did = search (arith, two_counted, owed_same)
-
-active_done : {region : SharedRegion} {r : Round} (k : ℕ) (old new : Worker)
+active_done : {region : _} {r : Round} (k : ℕ) (old new : Worker)
     → PairStands region r.book r.profile r.threads k (own_acts k r.ops) old (r.later k) (r.more k) r.start → 1 ≤ r.threads
-    → DidPhase region r.book r.ops old new
-    → (own : Came r.profile (own_acts k r.ops) r.start) × ThreadDone region r k old new own.said own.reached
+    → DidPhase region r.book r.ops old new → (own : Came r.profile (own_acts k r.ops) r.start) × ThreadDone region r k old new own.said own.reached
     × HasLeft region new.bench (pair_in r.threads k old.keeper) r.start.list own.reached.list
 active_done {r = r} k old new at some phase =
     let both = phase.did r.profile r.threads k (r.later k) (r.more k) r.start some at in
@@ -276,7 +249,7 @@ active_done {r = r} k old new at some phase =
         told = record { added = w.pushed; room = w.room };
         kept_told = w.kept_pushed;
         still = w.still;
-        paid = pair_paid r k old new at some both;
+        paid = search (arith, two_counted, owed_same);
         noted = w.noted;
         room_noted = w.room_noted;
         hands_over = λ none names among. hands_over old new names w none among;
@@ -310,8 +283,7 @@ lent_done {region} {r} {acts} {has} {has'} k n old new some off stood did lt lt'
     let apart : TookNoPart keeper said r.start q = did.others keeper (λ same. omega (arith, same, some))
     (λ i within same. (let at = idle_from r.threads r.ops i within in omega (arith, at.1, at.4, same, some))) in
     let acts_none = none_own k r.ops off in
-    let waits : KeeperWaits r.profile keeper [] kept (r.more k) q = waits_still r.profile keeper [] old.keeper (r.more k) r.start q apart.part_is
-    (ap (λ books. books keeper) did.books) (subst (λ xs. KeeperWaits r.profile keeper xs kept (r.more k) r.start) acts_none stood.waits) in
+    let waits : KeeperWaits r.profile keeper [] kept (r.more k) q = search (arith, waits_still) in
     record {
       stands = rw (is new, number) at (did.stands.lent.each n new lt');
       of = rw told.keeper stood.of;

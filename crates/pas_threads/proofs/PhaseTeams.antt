@@ -2,172 +2,26 @@
 -- before the phases that are left.
 use Rattle.std.proofs.Common.{◌≡◌, ℕ, zero, ◌+◌, ◌-◌, ◌<◌, ◌≤◌, true, inl, inr, List, [], ◌++◌, length, refl, ap, sym, ◌∙◌, subst, arith, append-nil, suc, Bool}
 use Rattle.std.proofs.Common.{false, ◌∷◌, get_or, Option, All, map, length-append, MatchOption, eqb-true, eq-eqb, ◌⊎◌, true≢false}
-use Rattle.std.proofs.lemmas.{List.append_cancel_left, Bool.{false_from_ne_true, cases_Bool, cases_lt}}
-use Rattle.pas_profile.specs.declared.profile.Profile.{Profile}
-use Rattle.pas_steps.specs.Lists.{part, Whole}
-use Rattle.pas_shared.specs.{declared.{region.SharedRegion.SharedRegion, ledger.Ledger.Ledger}, Ruled.{steps_of, IsEarlier, AreEarlier}, Ledgers.looks_of}
-use Rattle.pas_trace.specs.{EveryPlan.{own_records, records_of_ops, all_ops}, declared.plan.Op.Op, Acts.{Act, own_acts, scavenger_acts, idle_threads}}
-use Rattle.pas_trace.specs.{Acts.{acts_of_ops, is_active, Wakes, active_threads, phase_acts}, Asked.keeper_in, EveryPhase.FreeTheirOwn}
-use Rattle.pas_trace.proofs.EveryPlan.{own_both, records_both}
-use Rattle.pas_cache.specs.Caches.{Cached, cached}
-use Rattle.pas_answers.specs.{Answers.Progress, Calls.{owed_events, OnlyAsked}, Fit.{costs_of, own_costs_of, AreFit}, Names.names_held, Reaching.Reaches}
-use Rattle.pas_answers.{specs.{Ways.{records_by, by_actors}, Stages.{in_hands, phase_stages}}, proofs.OwnRecords.records_both as said_both}
-use Rattle.pas_answers.proofs.{Reached.reach_both, EachAct.all_back}
-use Rattle.pas_acts.specs.{Pairs.{for_guards, KeeperWaits, KeptPushed}, Awake.awake_in, Shares.{acts_by, owner_in, IsWoven, Owners, IsShareOf}}
-use Rattle.pas_acts.{specs.declared.names.NameBook.NameBook, proofs.{ActsOfPlan.{idle_few, ops_fit}, AtDesk.{rests_still, sits_still, sits_for}}}
-use Rattle.pas_acts.proofs.{Naming.{sound_front, below_front}, ActsLeft.threads_alike, PhaseActs.{acts_are_shared, own_thread, owner_of, kept_thread, zero_own}}
-use Rattle.pas_acts.proofs.Weaving.{weave}
-use Rattle.pas_threads.specs.{Pairs.{no_more, KeeperRests, owed_kept, keeper_at, AreGuarded, kept_by_worker}, Performing.{Round, idle_in, ThreadDone}}
-use Rattle.pas_threads.specs.{Performing.{ScavengerDone, HeardOrder, IsHeard, IsDone}, Sessions.{WorkerRests, ScavengerRests, WorkerHas, Session, planned}}
-use Rattle.pas_threads.specs.{Sessions.{owed_by, HasPlaces, TeamAt, AreMarked, HasRoom, PhaseDone, IsOfActors, StandSo, WentBy, evenly}, Taken.HandsOver}
-use Rattle.pas_threads.specs.{Taken.{HasTaken, IsWithin}, Left.{pair_in, crew_in}, Turns.{owed_at, Came, TookNoPart, said_by_all, said_by_keepers, Pushed}}
-use Rattle.pas_threads.specs.{Turns.WereGathered, declared.{scavenger.Scavenger.Scavenger, workers.Worker.Worker, keeper.Keeper.Keeper, phases.Team.Team}}
-use Rattle.pas_threads.proofs.{TakingTurns.{IsCleared, IsScavengerCleared, WereTaken, cleared, pass_still, same_owed}, Performed.{pair_has, names_then}}
+use Rattle.std.proofs.lemmas.{List.append_cancel_left, Bool.false_from_ne_true}
+use Rattle.pas_threads.proofs.Common.{cases_Bool, cases_lt, Profile, part, Whole, SharedRegion, Ledger, steps_of, IsEarlier, AreEarlier, looks_of, own_records}
+use Rattle.pas_threads.proofs.Common.{records_of_ops, all_ops, Op, Act, own_acts, idle_threads, acts_of_ops, is_active, Wakes, phase_acts, keeper_in, own_both}
+use Rattle.pas_threads.proofs.Common.{Cached, cached, Progress, owed_events, OnlyAsked, own_costs_of, names_held, Reaches, records_by, by_actors, in_hands}
+use Rattle.pas_threads.proofs.Common.{phase_stages, records_both as said_both, reach_both, all_back, for_guards, KeeperWaits, KeptPushed, acts_by, owner_in}
+use Rattle.pas_threads.proofs.Common.{IsWoven, NameBook, idle_few, rests_still, sits_still, sound_front, below_front, acts_are_shared, own_thread, owner_of}
+use Rattle.pas_threads.proofs.Common.{kept_thread, no_more, owed_kept, keeper_at, AreGuarded, kept_by_worker, Round, ThreadDone, ScavengerDone, HeardOrder}
+use Rattle.pas_threads.proofs.Common.{IsHeard, ScavengerRests, WorkerHas, Session, planned, owed_by, HasPlaces, TeamAt, AreMarked, HasRoom, PhaseDone}
+use Rattle.pas_threads.proofs.Common.{IsOfActors, StandSo, WentBy, evenly, HandsOver, HasTaken, IsWithin, pair_in, crew_in, owed_at, Came, TookNoPart}
+use Rattle.pas_threads.proofs.Common.{said_by_all, said_by_keepers, Pushed, WereGathered, Worker, Keeper, Team, is_set, Mask4, steps_by, records_in, room_of}
+use Rattle.pas_threads.proofs.{Common.{Records, Record}, TakingTurns.{IsCleared, WereTaken, cleared, pass_still, same_owed}, Performed.{pair_has, names_then}}
 use Rattle.pas_threads.proofs.{Performed.{names_within, in_pair, pair_within, pair_keeps, owned_by, idle_among, among_idle}, Dealt.some_item}
 use Rattle.pas_threads.proofs.{Benched.{among_here, among_later, among_cases}, ReadyPhases.{own_costs, scavenger_costs, own_all, all_paid, owed_less, HasBegun}}
 use Rattle.pas_threads.proofs.{ReadyPhases.{round_of, room_is, active_front, active_back, owed_pair}, Keepers.{owed_still, will_wait_then, waits_next}}
 use Rattle.pas_threads.proofs.{Keepers.{waits_still, owed_gathered, keeper_is, kept_nobody, kept_will, kept_hands, pushed_alike, none_there}, Staging.stand_all}
 use Rattle.pas_threads.proofs.{Staging.{of_first, went_both, went_alone, went_sorted, sorted_still, sorted_seen}, BetweenPhases.{AllTold, may_gather}}
-use Rattle.pas_threads.proofs.BetweenPhases.{room_left, written, rest_again}
-use Rattle.pas_bits.specs.{Masks.is_set, declared.mask.Mask4.Mask4}
-use Rattle.pas_core.specs.Orders.{steps_by}
-use Rattle.pas_records.specs.{Rooms.{records_in, room_of, Records}, declared.record.Record.Record}
-
--- ---- the whole phase
--- what an actor did is the same in both
-pub record HasSamePart (k : ℕ) (own p : Progress) : Type 0 where
-  pub parts : part k own.list ≡ part k p.list
-  pub caches : own.caches k ≡ p.caches k
-  pub books : own.books k ≡ p.books k
-  pub records : records_by k own.records ≡ records_by k p.records
-
--- A worker's share has the part of each actor in its hands.
-same_part : {owner : Owners} {w : ℕ} {own p : Progress} → IsShareOf owner w own p → (k : ℕ) → owner k ≡ w → HasSamePart k own p
-same_part share k is = record { parts = share.parts k is; caches = share.caches k is; books = share.books k is; records = share.records k is }
-
--- What an actor said for itself is what it said in all, where its records are the same.
-said_alike : {f : Profile} {acts : List Act} {k : ℕ} {q reached : Progress} (own : Came f acts q) (said : List Record) → HasSamePart k own.reached reached
-    → reached.records ≡ q.records ++ said → records_by k own.said ≡ records_by k said
-said_alike {k = k} {q} own said same records =
-    search (arith, said_both, append_cancel_left)
-
--- Nor did one take part in all that took none in what its worker did.
-took_none : {f : Profile} {acts : List Act} {k : ℕ} {q reached : Progress} (own : Came f acts q) (said : List Record) → HasSamePart k own.reached reached
-    → reached.records ≡ q.records ++ said → TookNoPart k own.said q own.reached → TookNoPart k said q reached
-took_none own said same records none = record { part_is = sym same.parts ∙ none.part_is; silent = sym (said_alike own said same records) ∙ none.silent }
-
--- the profile with just the threads, by which a plan's operations are counted
-abbrev pub planned_in : Round → Profile
-planned_in r = record r.profile { threads = r.threads }
-
--- ---- a thread and its keeper
--- Both rested before the phase, and did their operations of it, as their worker's share of the whole phase has them.
-pub record WorkerShare (region : SharedRegion) (r : Round) (k : ℕ) (old new : Worker) (left : List Op) (said : List Record) (reached : Progress) : Type 0 where
-  pub acts : List Act
-  pub own : Came r.profile acts r.start
-  pub rests : WorkerRests region r.profile k old (own_records (planned_in r) k (r.ops ++ left)) r.start
-  pub kept : KeeperRests region r.profile (r.threads + k) (own_acts k (r.ops ++ left)) old.keeper r.start
-  pub done : ThreadDone region r k old new own.said own.reached
-  pub same : HasSamePart k own.reached reached
-  pub same_kept : HasSamePart (r.threads + k) own.reached reached
-  pub records_are : reached.records ≡ r.start.records ++ said
-  pub events : (r.later k).events ≡ own_records (planned_in r) k left
-  pub spare : (r.later k).records ≡ room_of old.out - (owed_at r.profile k r.start + own_costs_of k (own_acts k r.ops))
-  pub more : r.more k ≡ for_guards (own_acts k left) no_more
-
-module _ {region r k old new left said reached : _} (x : WorkerShare region r k old new left said reached) where
-  abbrev keeper : ℕ
-  keeper = r.threads + k
-
-  -- What the worker said for its thread in the phase are its own records of what was said.
-  has_said : records_in new.out ≡ records_by k said
-  has_said = x.done.told.added ∙ ap (λ (rs : List Record). rs ++ records_by k x.own.said) x.rests.said ∙ said_alike x.own said x.same x.records_are
-
-  owed_before : owed_at r.profile k r.start ≡ owed_events r.profile (cached old.cache) (part k r.start.list)
-  owed_before = ap (λ (c : Cached). owed_events r.profile c (part k r.start.list)) x.rests.here.rests.cache
-
-  -- it rests where the whole phase came to
-  has_then : WorkerHas region r.profile k new (r.later k) reached
-  has_then = record {
-    has = x.done.stands.has;
-    rests = rests_still (pass_still x.done.stands.has.pass) (sym x.same.parts) (sym x.same.caches) x.done.stands.rests;
-  }
-
-  -- what it owed before and its operations pay for what it said, and for what it owes afterwards
-  has_paid : length (records_by k said) + owed_at r.profile k reached ≤ owed_at r.profile k r.start + own_records (planned_in r) k r.ops
-  has_paid =
-      search (arith, has_said, has_then, own_costs, own_both, owed_before)
-
-  -- So it is of the thread and its keeper together, whichever of the two took part.
-  pair_paid : length (records_by k said) + length (records_by keeper said) + (owed_at r.profile k reached + owed_kept r.profile keeper new.keeper reached)
-      ≤ owed_at r.profile k r.start + owed_kept r.profile keeper old.keeper r.start + own_records (planned_in r) k r.ops
-  pair_paid =
-      let its = ap length (said_alike x.own said x.same_kept x.records_are) in
-      let owes = same_owed r.profile x.own.reached reached k (sym x.same.parts) (sym x.same.caches) in
-      let owed = owed_still r.profile keeper new.keeper x.own.reached reached (sym x.same_kept.parts) in
-      elim x.done.paid [
-        | inl both ↦ omega (arith, ap length (said_alike x.own said x.same x.records_are), its, owes, owed, own_costs (planned_in r) k r.ops, both)
-        | inr idle ↦
-            omega (arith, its, owed, ap length idle.0, idle.1, has_paid)
-      ]
-
-  -- What it said for both came to the records of each. Both rest with room for the operations that are left.
-  own_out : Pushed k said old.out new.out
-  own_out = record { added = x.done.told.added ∙ ap (λ (rs : List Record). records_in old.out ++ rs) (said_alike x.own said x.same x.records_are); room = x.done.told.room }
-
-  kept_out : KeptPushed keeper said (kept_by_worker old.keeper) (kept_by_worker new.keeper)
-  kept_out = pushed_alike keeper x.own.said said (kept_by_worker old.keeper) (kept_by_worker new.keeper) (said_alike x.own said x.same_kept x.records_are) x.done.kept_told
-
-  has_left : WorkerHas region r.profile k new (evenly (own_records (planned_in r) k left)) reached
-  has_left =
-      let room = x.done.told.room in
-      let both = own_both (planned_in r) k r.ops left in
-      let spare = x.rests.here.rests.spare in
-      let owed = ap (λ (c : Cached). owed_events r.profile c (part k reached.list)) has_then.rests.cache in
-      let mine = ap length has_said in
-      let at = has_then.rests in
-      let events = x.events in
-      record { has = has_then.has; rests = record { sits = sits_for at.sits (omega (arith, events)); cache = at.cache; spare = omega (arith, room, both, spare, owed, mine, has_paid, owed_before) } }
-
-  kept_left : KeeperWaits r.profile keeper (own_acts k left) (kept_by_worker new.keeper) no_more reached
-  kept_left = search (arith, will_wait_then, kept_will, waits_next, waits_still) fits 400
-
--- ---- the scavenger
--- It rested before the phase, and did its operations of it, as its worker's share of the whole phase has them.
-pub record ScavengerShare (region : SharedRegion) (r : Round) (old new : Scavenger) (p : Progress) (left : List Op) (said : List Record)
-    (reached : Progress) : Type 0 where
-  pub acts : List Act
-  pub own : Came r.profile acts r.start
-  pub rests : ScavengerRests region r.profile old (own_records (planned_in r) 0 (r.ops ++ left)) p
-  pub done : ScavengerDone region r old new own.said own.reached
-  pub same : HasSamePart 0 own.reached reached
-  pub records_are : reached.records ≡ r.start.records ++ said
-  pub events : (r.later 0).events ≡ own_records (planned_in r) 0 left
-  pub spare : (r.later 0).records ≡ room_of old.out - costs_of r.profile.pages (scavenger_acts (idle_in r) r.ops)
-
-module _ {region r old new p left said reached : _} (x : ScavengerShare region r old new p left said reached) where
-  -- What the scavenger said in the phase are its own records of what was said.
-  scavenger_said : records_in new.out ≡ records_by 0 said
-  scavenger_said = x.done.2.added ∙ ap (λ (rs : List Record). rs ++ records_by 0 x.own.said) x.rests.said ∙ said_alike x.own said x.same x.records_are
-
-  -- Its operations pay for that.
-  scavenger_paid : length (records_by 0 said) ≤ own_records (planned_in r) 0 r.ops
-  scavenger_paid =
-      search (arith, scavenger_said, idle_few, scavenger_costs, own_both)
-
-  -- Once what it said is gathered it rests.
-  scavenger_after : {after : Scavenger} → IsScavengerCleared new after → ScavengerRests region r.profile after (own_records (planned_in r) 0 left) reached
-  scavenger_after c =
-      record {
-        has = record { pass = x.done.0.pass; present = c.pass ∙ x.done.0.present; of = x.done.0.of };
-        at = search (arith, sits_still, own_both) fits 400;
-        said = c.empty;
-        none = c.none;
-      }
-
--- The scavenger is in its own hands.
-scavenger_own : (threads : ℕ) (ops : List Op) → owner_in threads ops 0 ≡ 0
-scavenger_own threads ops = owner_of threads ops 0 0 (own_thread threads 0 (omega arith)) ∙ zero_own (is_active ops 0)
+use Rattle.pas_threads.{proofs.BetweenPhases.{room_left, written, rest_again}, specs.Performing.IsDone}
+use Rattle.pas_trace.{specs.{Acts.active_threads, EveryPhase.FreeTheirOwn}, proofs.EveryPlan.records_both}
+use Rattle.pas_answers.specs.Fit.{AreFit}
+use Rattle.pas_acts.{specs.Shares.IsShareOf, proofs.{ActsOfPlan.ops_fit, ActsLeft.threads_alike, PhaseActs.zero_own, Weaving.weave}}
 
 -- ---- the team, once all hands did their operations
 module _ {region s awake team team1 team2 p : _} (ops : List Op) (rest : List (List Op)) (at : TeamAt region s (ops ∷ rest) team p)
@@ -194,15 +48,7 @@ module _ {region s awake team team1 team2 p : _} (ops : List Op) (rest : List (L
       let hands = (acts_are_shared f s.threads names.asked ops (sound_front f names.asked ops left names.sound) begun.ready.behind begun.ready.within).0 in
       weave f (owner_in s.threads ops) limit names.asked acts start (λ w. start) (λ w. (done.pieces w).own.reached)
       (subst (AreFit f limit names.asked) (append-nil acts) fit) hands (subst (OnlyAsked names.asked) (sym begun.woke.turns.leaves.names) names.only)
-      (λ w. record {
-        steps = refl;
-        parts = λ k is. refl;
-        caches = λ k is. refl;
-        books = λ k is. refl;
-        records = λ k is. refl;
-        epoch = λ is. refl;
-        names = λ n block is. is;
-      })
+      (λ w. search arith)
       (λ w. (done.pieces w).own.reaches)
 
   abbrev pub reached : Progress
@@ -211,66 +57,179 @@ module _ {region s awake team team1 team2 p : _} (ops : List Op) (rest : List (L
   abbrev said : List Record
   said = woven.said
 
-  -- There is a worker for each thread.
-  counted : length team1.threads.items ≡ s.threads
-  counted = begun.workers.many
-
   abbrev acts_in : ℕ → List Act
   acts_in w = acts_by (owner_in s.threads ops) w (acts_of_ops (idle_threads s.threads ops) ops)
 
-  -- what a thread's worker did, by the piece of whose hands it is in; so is its keeper
-  share : (i : ℕ) (d : Worker) → i < length team1.threads.items
-      → WorkerShare region round_is (suc i) (get_or team1.threads.items i d) (get_or team2.threads.items i d) left said reached
-  share i d lt =
-      let w = owner_in s.threads ops (suc i) in
-      record {
-        acts = acts_in w;
-        own = (done.pieces w).own;
-        rests = begun.workers.threads i d lt;
-        kept = begun.workers.kept i d lt;
-        done = (done.pieces w).threads i d lt refl;
-        same = same_part (woven.shares w) (suc i) refl;
-        same_kept = same_part (woven.shares w) (s.threads + suc i) (kept_hands s.threads ops i (omega (arith, counted, lt)));
-        records_are = woven.records_are;
-        events = refl;
-        spare = ap (λ (n : ℕ). n - (owed_at f (suc i) start + own_costs_of (suc i) (own_acts (suc i) ops))) (room_is team1.threads.items i d lt);
-        more = refl;
-      }
+  -- what the worker with these hands did, by itself
+  abbrev own : (w : ℕ) → Came f (acts_in w) start
+  own w = (done.pieces w).own
 
-  -- the scavenger is in its own hands, with all that have no operation
-  crew_share : ScavengerShare region round_is team1.scavenger team2.scavenger p left said reached
-  crew_share = record {
-    acts = acts_in 0;
-    own = (done.pieces 0).own;
-    rests = subst (λ (x : Scavenger). ScavengerRests region f x (own_records (planned s) 0 (ops ++ left)) p) (sym begun.scavenger) at.scavenger;
-    done = (done.pieces 0).scavenger refl;
-    same = same_part (woven.shares 0) 0 (scavenger_own s.threads ops);
-    records_are = woven.records_are;
-    events = refl;
-    spare = refl;
+  -- What an actor in its hands said for itself is what it said in all.
+  said_alike : {w : ℕ} (k : ℕ) → owner_in s.threads ops k ≡ w → records_by k (own w).said ≡ records_by k said
+  said_alike {w} k is =
+      let ours = said_both k start.records (own w).said in
+      let all = said_both k start.records said in
+      append_cancel_left (records_by k start.records) (records_by k (own w).said) (records_by k said)
+      (cc (ours, all, (own w).records_are, woven.records_are, (woven.shares w).records k is))
+
+  -- Nor did one take part in all that took none in what its worker did.
+  took_none : {w : ℕ} (k : ℕ) → owner_in s.threads ops k ≡ w → TookNoPart k (own w).said start (own w).reached → TookNoPart k said start reached
+  took_none {w} k is none = record { part_is = sym ((woven.shares w).parts k is) ∙ none.part_is; silent = sym (said_alike k is) ∙ none.silent }
+
+  -- ---- a thread and its keeper
+  -- Both rested before the phase, and did their operations of it, as the share of their worker has them.
+  module _ (i : ℕ) (d : Worker) (lt : i < length team1.threads.items) where
+    abbrev k : ℕ
+    k = suc i
+
+    abbrev keeper : ℕ
+    keeper = s.threads + suc i
+
+    abbrev old : Worker
+    old = get_or team1.threads.items i d
+
+    abbrev new : Worker
+    new = get_or team2.threads.items i d
+
+    abbrev its_own : Came f (acts_in (owner_in s.threads ops (suc i))) start
+    its_own = own (owner_in s.threads ops (suc i))
+
+    abbrev share : IsShareOf (owner_in s.threads ops) (owner_in s.threads ops (suc i)) its_own.reached reached
+    share = woven.shares (owner_in s.threads ops (suc i))
+
+    abbrev thread : ThreadDone region round_is k old new its_own.said its_own.reached
+    thread = (done.pieces (owner_in s.threads ops (suc i))).threads i d lt refl
+
+    in_hand : owner_in s.threads ops keeper ≡ owner_in s.threads ops k
+    in_hand = kept_hands s.threads ops i (omega (arith, begun.workers.many, lt))
+
+    -- What the worker said for its thread in the phase are its own records of what was said.
+    has_said : records_in new.out ≡ records_by k said
+    has_said = thread.told.added ∙ ap (λ (rs : List Record). rs ++ records_by k its_own.said) (begun.workers.threads i d lt).said ∙ said_alike k refl
+
+    owed_before : owed_at f k start ≡ owed_events f (cached old.cache) (part k start.list)
+    owed_before = ap (λ (c : Cached). owed_events f c (part k start.list)) (begun.workers.threads i d lt).here.rests.cache
+
+    -- it rests where the whole phase came to
+    has_then : WorkerHas region f k new (round_is.later k) reached
+    has_then = record {
+      has = thread.stands.has;
+      rests = rests_still (pass_still thread.stands.has.pass) (sym (share.parts k refl)) (sym (share.caches k refl)) thread.stands.rests;
+    }
+
+    owed_then : owed_at f k reached ≡ owed_events f (cached new.cache) (part k reached.list)
+    owed_then = ap (λ (c : Cached). owed_events f c (part k reached.list)) has_then.rests.cache
+
+    -- what it owed before and its operations pay for what it said, and for what it owes afterwards
+    has_paid : length (records_by k said) + owed_at f k reached ≤ owed_at f k start + own_records (planned s) k ops
+    has_paid =
+        let rests = begun.workers.threads i d lt in
+        let spare : (round_is.later k).records ≡ room_of old.out - (owed_at f k start + own_costs_of k (own_acts k ops)) =
+        ap (λ (n : ℕ). n - (owed_at f k start + own_costs_of k (own_acts k ops))) (room_is team1.threads.items i d lt) in
+        let costs = own_costs (planned s) k ops in
+        let both = own_both (planned s) k ops left in
+        let mine = ap length has_said in
+        omega (arith, spare, mine, has_then.rests.spare, owed_then, costs, both, owed_before, rests.here.rests.spare, thread.told.room, ap length rests.said)
+
+    -- So it is of the thread and its keeper together, whichever of the two took part.
+    pair_paid : length (records_by k said) + length (records_by keeper said) + (owed_at f k reached + owed_kept f keeper new.keeper reached)
+        ≤ owed_at f k start + owed_kept f keeper old.keeper start + own_records (planned s) k ops
+    pair_paid =
+        let its = ap length (said_alike keeper in_hand) in
+        let owes = same_owed f its_own.reached reached k (sym (share.parts k refl)) (sym (share.caches k refl)) in
+        let owed = owed_still f keeper new.keeper its_own.reached reached (sym (share.parts keeper in_hand)) in
+        elim thread.paid [
+          | inl both ↦ omega (arith, ap length (said_alike k refl), its, owes, owed, own_costs (planned s) k ops, both)
+          | inr idle ↦ omega (arith, its, owed, ap length idle.0, idle.1, has_paid)
+        ]
+
+    -- What it said for both came to the records of each. Both rest with room for the operations that are left.
+    own_out : Pushed k said old.out new.out
+    own_out = record { added = thread.told.added ∙ ap (λ (rs : List Record). records_in old.out ++ rs) (said_alike k refl); room = thread.told.room }
+
+    kept_out : KeptPushed keeper said (kept_by_worker old.keeper) (kept_by_worker new.keeper)
+    kept_out = pushed_alike keeper its_own.said said (kept_by_worker old.keeper) (kept_by_worker new.keeper) (said_alike keeper in_hand) thread.kept_told
+
+    has_left : WorkerHas region f k new (evenly (own_records (planned s) k left)) reached
+    has_left =
+        let both = own_both (planned s) k ops left in
+        let spare = (begun.workers.threads i d lt).here.rests.spare in
+        record {
+          has = has_then.has;
+          rests = record {
+            sits = has_then.rests.sits;
+            cache = has_then.rests.cache;
+            spare = omega (arith, thread.told.room, both, spare, owed_then, ap length has_said, has_paid, owed_before);
+          };
+        }
+
+    kept_left : KeeperWaits f keeper (own_acts k left) (kept_by_worker new.keeper) no_more reached
+    kept_left =
+        let will = kept_will k ops left old.keeper (begun.workers.kept i d lt) in
+        waits_next f keeper (own_acts k left) (kept_by_worker new.keeper) no_more reached
+        (will_wait_then keeper its_own.said (own_acts k left) (kept_by_worker old.keeper) (kept_by_worker new.keeper) thread.kept_told will)
+        (waits_still f keeper [] new.keeper (for_guards (own_acts k left) no_more) its_own.reached reached
+        (sym (share.parts keeper in_hand)) (sym (share.books keeper in_hand)) thread.waits)
+
+  -- ---- the scavenger
+  -- It rested before the phase, and did its operations of it, as the share of its worker has them.
+  abbrev crew : ScavengerDone region round_is team1.scavenger team2.scavenger (own 0).said (own 0).reached
+  crew = (done.pieces 0).scavenger refl
+
+  -- It is in its own hands.
+  scavenger_own : owner_in s.threads ops 0 ≡ 0
+  scavenger_own = owner_of s.threads ops 0 0 (own_thread s.threads 0 (omega arith)) ∙ zero_own (is_active ops 0)
+
+  crew_rests : ScavengerRests region f team1.scavenger (own_records (planned s) 0 (ops ++ left)) p
+  crew_rests = rw begun.scavenger at.scavenger
+
+  -- What the scavenger said in the phase are its own records of what was said.
+  scavenger_said : records_in team2.scavenger.out ≡ records_by 0 said
+  scavenger_said = crew.2.added ∙ ap (λ (rs : List Record). rs ++ records_by 0 (own 0).said) crew_rests.said ∙ said_alike 0 scavenger_own
+
+  -- Its operations pay for that.
+  scavenger_paid : length (records_by 0 said) ≤ own_records (planned s) 0 ops
+  scavenger_paid =
+      let costs = scavenger_costs f s.threads (idle_threads s.threads ops) ops (idle_few s.threads ops) in
+      let both = own_both (planned s) 0 ops left in
+      let mine = ap length scavenger_said in
+      omega (arith, mine, crew.1.stands.spare, costs, both, crew_rests.at.stands.spare, crew.2.room, ap length crew_rests.said)
+
+  -- Once what it said is gathered it rests.
+  scavenger_after : (out : Records) → records_in out ≡ [] → room_of out ≡ room_of team2.scavenger.out
+      → ScavengerRests region f (record team2.scavenger { out = out }) (own_records (planned s) 0 left) reached
+  scavenger_after out empty size = record {
+    has = crew.0;
+    at = record {
+      stands = record {
+        sits = sits_still (λ v. 0 + own_records (planned s) 0 left) (pass_still crew.0.pass) (sym ((woven.shares 0).parts 0 scavenger_own)) crew.1.stands.sits;
+        spare = omega (arith, ap length empty, size, crew.2.room, own_both (planned s) 0 ops left, crew_rests.at.stands.spare);
+      };
+      has_places = crew.1.has_places;
+    };
+    said = empty;
+    none = done.none;
   }
 
-  -- nobody past the threads and the keepers has an operation, nor a part in the phase
+  -- ---- nobody past the threads and the keepers has an operation, nor a part in the phase
   nobody_kept : (i : ℕ) (d : Worker) → i < length team1.threads.items → s.threads + s.keepers < s.threads + suc i → AreGuarded s.keepers team1.threads.items
       → TookNoPart (s.threads + suc i) said start reached
   nobody_kept i d lt far (true, many, all) = absurd (omega (arith, many, far, lt))
   nobody_kept i d lt far (false, none, all) =
-      let x = share i d lt in
-      let away = kept_nobody {r = round_is} x.done (none_there (get_or team1.threads.items i d).keeper (all i d lt)) in
-      took_none x.own said x.same_kept x.records_are record { part_is = away.0; silent = away.1 }
+      let away = kept_nobody {r = round_is} (thread i d lt) (none_there (get_or team1.threads.items i d).keeper (all i d lt)) in
+      took_none (s.threads + suc i) (in_hand i d lt) record { part_is = away.0; silent = away.1 }
 
   -- Nobody else is left at the bench once the actor and its keeper rose.
   nobody : (k : ℕ) → s.threads + s.keepers < k → TookNoPart k said start reached
   nobody k far = elim (cases_lt (s.threads + s.threads) k) [
     | inl past ↦
         let its : owner_in s.threads ops k ≡ 0 = search (arith, false_from_ne_true, kept_thread, owner_of) in
-        took_none (done.pieces 0).own said (same_part (woven.shares 0) k its) woven.records_are (((done.pieces 0).scavenger refl).3 k (omega (arith, far)))
+        took_none k its (crew.3 k (omega (arith, far)))
     | inr within ↦
         let i = k - s.threads - 1 in
         let back : s.threads + suc i ≡ k = omega (arith, far) in
-        let lt : i < length team1.threads.items = omega (arith, counted, back, within) in
-        subst (λ j. TookNoPart j said start reached) back
-        (nobody_kept i (some_item team1.threads.items i lt) lt (omega (arith, far, back)) begun.workers.guarded)
+        let lt : i < length team1.threads.items = omega (arith, begun.workers.many, back, within) in
+        rw back at (nobody_kept i (some_item team1.threads.items i lt) lt (omega (arith, far, back)) begun.workers.guarded)
   ]
 
   -- ---- what is gathered
@@ -278,7 +237,7 @@ module _ {region s awake team team1 team2 p : _} (ops : List Op) (rest : List (L
   began_with : (i : ℕ) → i < s.threads → owed_pair s team1.threads.items start i ≤ owed_pair s team.threads.items p i
   began_with i lt =
       let less : i < length team.threads.items = omega (arith, lt, at.workers.many) in
-      let here : i < length team1.threads.items = omega (arith, lt, counted) in
+      let here : i < length team1.threads.items = omega (arith, lt, begun.workers.many) in
       let d = some_item team.threads.items i less in
       let keeper = s.threads + suc i in
       let due = (begun.woke.turns.stand i d less).paid in
@@ -292,20 +251,20 @@ module _ {region s awake team team1 team2 p : _} (ops : List Op) (rest : List (L
       ≤ owed_by s team1.threads.items start s.threads + records_of_ops (planned s) ops
   paid =
       let threads = all_paid s ops said team1.threads.items team2.threads.items start reached s.threads (λ i lt.
-      let less : i < length team1.threads.items = omega (arith, lt, counted) in
+      let less : i < length team1.threads.items = omega (arith, lt, begun.workers.many) in
       let d = some_item team1.threads.items i less in
       let before = ap (λ (o : Option Keeper). owed_kept f (s.threads + suc i) o start) (keeper_is team1.threads.items i d less) in
       let after = ap (λ (o : Option Keeper). owed_kept f (s.threads + suc i) o reached) (keeper_is team2.threads.items i d (omega (arith, less, done.many))) in
-      omega (arith, before, after, pair_paid (share i d less))) in
-      omega (arith, threads, own_all (planned s) ops s.threads, scavenger_paid crew_share)
+      omega (arith, before, after, pair_paid i d less)) in
+      omega (arith, threads, own_all (planned s) ops s.threads, scavenger_paid)
 
   told : AllTold region s ops left said team1.threads.items team2.threads.items team2.threads.items start reached
   told = record {
     rest = begun.workers;
     many = done.many;
-    threads = λ i d lt. let x = share i d lt in record { here = has_left x; out = own_out x };
-    keepers = λ i d lt. let x = share i d lt in record { of = x.done.of; waits = kept_left x; out = kept_out x };
-    places = λ i d lt. (share i d lt).done.room_noted;
+    threads = λ i d lt. record { here = has_left i d lt; out = own_out i d lt };
+    keepers = λ i d lt. record { of = (thread i d lt).of; waits = kept_left i d lt; out = kept_out i d lt };
+    places = λ i d lt. (thread i d lt).room_noted;
     silent = λ k far. (nobody k far).silent;
     spoken = woven.spoken;
     records_are = woven.records_are;
@@ -319,11 +278,10 @@ module _ {region s awake team team1 team2 p : _} (ops : List Op) (rest : List (L
     sized = g.many ∙ done.many
 
     hands : (i : ℕ) (d : Worker) → i < length gathered → HandsOver f ops team1.book (suc i) (get_or gathered i d).requests reached.names
-    unfolding share
     hands i d lt =
-        let x = share i d (omega (arith, lt, sized)) in
+        let here : i < length team1.threads.items = omega (arith, lt, sized) in
         subst (λ requests. HandsOver f ops team1.book (suc i) requests reached.names) (sym (g.each i d (omega (arith, lt, g.many))).requests)
-        (x.done.hands_over x.rests.asked reached.names (woven.shares (owner_in s.threads ops (suc i))).names)
+        ((thread i d here).hands_over (begun.workers.threads i d here).asked reached.names (share i d here).names)
 
     -- The names that each worker asked for are ones that the book holds, so it may take them.
     pub may_take : All (IsWithin (names_held team2.book.names)) gathered
@@ -341,7 +299,7 @@ module _ {region s awake team team1 team2 p : _} (ops : List Op) (rest : List (L
       -- each keeper owes what it did before it was gathered
       kept_owed : owed_by s team3.threads.items reached s.threads ≤ owed_by s team2.threads.items reached s.threads
       kept_owed = owed_less s team2.threads.items team3.threads.items reached reached s.threads (λ i lt.
-          let less : i < length team2.threads.items = omega (arith, lt, counted, done.many) in
+          let less : i < length team2.threads.items = omega (arith, lt, begun.workers.many, done.many) in
           let d = some_item team2.threads.items i less in
           let owed = λ (o : Option Keeper). owed_kept f (s.threads + suc i) o reached in
           let after = ap owed (keeper_is team3.threads.items i d (omega (arith, less, g.many, t.many))) in
@@ -349,10 +307,11 @@ module _ {region s awake team team1 team2 p : _} (ops : List Op) (rest : List (L
           omega (arith, after, ap owed (keeper_is team2.threads.items i d less), same))
 
       -- The team stands where the whole phase came to.
-      pub phase_team : IsScavengerCleared team2.scavenger team3.scavenger → HasPlaces s.threads team3 → TeamAt region s rest team3 reached
-      phase_team scavenger places =
+      pub phase_team : (out : Records) → records_in out ≡ [] → room_of out ≡ room_of team2.scavenger.out
+          → team3.scavenger ≡ record team2.scavenger { out = out } → HasPlaces s.threads team3 → TeamAt region s rest team3 reached
+      phase_team out empty size same places =
           let names = names_then s.threads ops left team1.book team3.book gathered at.names begun.woke.turns.leaves.names woven begun.names hands
-          (λ k on. (let le = at.fit.within k (active_front k ops left on) in omega (arith, le, sized, counted)))
+          (λ k on. (let le = at.fit.within k (active_front k ops left on) in omega (arith, le, sized, begun.workers.many)))
           (subst (λ (b : NameBook). HasTaken b team3.book gathered) done.book t.taken) (t.held ∙ ap (λ (b : NameBook). names_held b.names) done.book)
           in
           record {
@@ -364,7 +323,7 @@ module _ {region s awake team team1 team2 p : _} (ops : List Op) (rest : List (L
               behind = all_back (λ op. MatchOption (keeper_in op.what) (Unit {0}) (λ keeper. keeper ≡ s.threads + op.actor)) ops left at.fit.behind;
             };
             workers = rest_again told team3.threads.items (t.many ∙ g.many) clear;
-            scavenger = scavenger_after crew_share scavenger;
+            scavenger = rw same (scavenger_after out empty size);
             nobody = λ k far.
                 (nobody k far).part_is ∙ begun.woke.turns.leaves.parts k (λ i lt same. omega (arith, far, at.workers.many, lt, same)) ∙ at.nobody k far;
             names = names.0;
@@ -375,10 +334,7 @@ module _ {region s awake team team1 team2 p : _} (ops : List Op) (rest : List (L
   -- ---- the acts
   woke : ((k : ℕ) → is_set awake k ≡ is_active ops k) → Reaches f (map Wakes (active_threads s.threads ops)) p start
   woke alike =
-      let threads = length team.threads.items in
-      let wakes : awake_in awake threads ≡ active_threads s.threads ops = threads_alike (is_set awake) (is_active ops) threads alike
-      ∙ ap (λ n. active_threads n ops) at.workers.many in
-      subst (λ ks. Reaches f (map Wakes ks) p start) wakes begun.woke.turns.came.reaches
+      search (arith, threads_alike)
 
   reaches : ((k : ℕ) → is_set awake k ≡ is_active ops k) → Reaches f (phase_acts s.threads ops) p reached
   reaches alike =
@@ -394,11 +350,11 @@ module _ {region s awake team team1 team2 p : _} (ops : List Op) (rest : List (L
     -- There is room for what the scavenger said in the phase behind the records.
     pub may_append : length (records_in out) + length (records_in team2.scavenger.out) ≤ room_of out
     may_append =
-        omega (arith, ap length (scavenger_said crew_share), paid, records_both (planned s) ops left, room_begun)
+        omega (arith, ap length scavenger_said, paid, records_both (planned s) ops left, room_begun)
 
     module _ (out1 : Records) (added : records_in out1 ≡ records_in out ++ records_in team2.scavenger.out) (same : room_of out1 ≡ room_of out) where
       added_own : records_in out1 ≡ records_in out ++ records_by 0 said
-      added_own = added ∙ ap (λ (rs : List Record). records_in out ++ rs) (scavenger_said crew_share)
+      added_own = added ∙ ap (λ (rs : List Record). records_in out ++ rs) scavenger_said
 
       -- There is room for what all threads and keepers said in the phase behind that.
       pub gather_fits : length (records_in out1) + (length (said_by_all team2.threads.items) + length (said_by_keepers team2.threads.items)) ≤ room_of out1
@@ -407,16 +363,16 @@ module _ {region s awake team team1 team2 p : _} (ops : List Op) (rest : List (L
       module _ {gathered : List Worker} {out2 : Records} (g : WereGathered team2.threads.items gathered out1 out2) where
         -- The phase is done, with the team before the phases left.
         pub phase_done : ((k : ℕ) → is_set awake k ≡ is_active ops k) → AreMarked s p.records (records_in out) → (team3 : Team)
-            → WereTaken gathered team3.threads.items team2.book team3.book → IsScavengerCleared team2.scavenger team3.scavenger → HasPlaces s.threads team3
+            → WereTaken gathered team3.threads.items team2.book team3.book → TeamAt region s rest team3 reached
             → {before after : Whole} → WentBy s (phase_stages s.threads ops) p reached before after
             → PhaseDone region s ops rest marks team3 out out2 before after p
-        phase_done alike marked team3 t scavenger places went =
+        phase_done alike marked team3 t then went =
             let records : start.records ≡ p.records =
             begun.woke.turns.came.records_are ∙ ap (λ (rs : List Record). p.records ++ rs) begun.woke.silent ∙ append-nil p.records in
             record {
               reached = reached;
               reaches = reaches alike;
-              team_at = phase_team g team3 t scavenger places;
+              team_at = then;
               written = written told (records_in out) out1 out2 at.fit.fits (rw records marked) added_own g.added;
               room = omega (arith, kept_owed g team3 t, room_left told marks out out1 added_own same room_begun out2 g.added g.size);
               size = g.size ∙ same;
@@ -482,7 +438,7 @@ module _ {region : SharedRegion} {s : Session} {awake : Mask4} {team team1 team2
     -- the scavenger, and the threads that are idle
     hand_sorted : (w : ℕ) → is_active ops w ≡ true → steps_by (in_hands owner w) since ≡ steps_by (in_hands owner w) made
     hand_sorted zero on = busy_sorted 0 (crew_in (idle_threads s.threads ops)) (heard.scavenger on)
-        (λ k its. search (arith, among_cases, among_idle, cases_Bool, true≢false, owner_of, own_thread, scavenger_own s.threads ops))
+        (λ k its. search (arith, among_cases, among_idle, cases_Bool, true≢false, owner_of, own_thread, scavenger_own ops rest at begun heard.done))
         (λ k is. search (arith, cases_lt, among_here, owned_by, among_later, idle_among))
     hand_sorted (suc i) on = thread_sorted i (let le = begun.ready.within (suc i) on in omega (arith, le, begun.workers.many)) on
 

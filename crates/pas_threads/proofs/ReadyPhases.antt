@@ -1,25 +1,18 @@
 -- What a phase of the team begins with: what its acts cost, owe and say in all; its threads read the epoch, its names are noted, and all hands are ready.
 use Rattle.std.proofs.Common.{◌≡◌, ◌≢◌, ℕ, zero, suc, ◌+◌, ◌<◌, ◌≤◌, ◌==◌, true, if◌then◌else◌, List, [], ◌∷◌, ◌++◌, length, get_or, Option, refl, ap, sym, ◌∙◌}
-use Rattle.std.proofs.Common.{arith, append_assoc, length-append, eq-eqb, ne_eqb, ◌-◌, subst, MatchOption, vec_capacity, is_some, false, map}
-use Rattle.std.{proofs.lemmas.{Bool.{cases_eq, false≢true, or_right}, List.{with_items_is, get_or-map}}, specs.Vec.with_items}
-use Rattle.pas_profile.specs.declared.profile.Profile.{Profile}
-use Rattle.pas_trace.specs.{Asked.keeper_in, EveryPlan.{records_of_what, records_of_ops, own_records, all_ops, records_of_work}, declared.plan.Work.Work}
-use Rattle.pas_trace.specs.{declared.plan.Op.Op, Acts.{act_kept, own_acts, scavenger_acts, idle_threads, is_active}, EveryPhase.FreesItsOwn}
-use Rattle.pas_trace.proofs.EveryPlan.{own_both}
-use Rattle.pas_answers.specs.{Answers.Progress, Ways.{records_by, by_actors}, Calls.owed_events, Fit.{costs_of, own_cost_of_act, own_costs_of, cost_of_work}}
-use Rattle.pas_answers.{specs.Fit.cost_of_what, proofs.{EachAct.all_front, SingleActs.sum_both}}
-use Rattle.pas_acts.{proofs.{ActsOfPlan.{idle_few, work_costs}, AtDesk.{sits_still, sits_for}, Naming.{sound_front, names_before}}, specs.Keepers.LaterKept}
-use Rattle.pas_acts.specs.{Pairs.for_guards, Works.Later, NameBooks.{NamesAt, names_asked, ArePlaced}, declared.names.NameBook.NameBook}
-use Rattle.pas_threads.specs.{Pairs.{said_by_keeper, owed_kept, keeper_at, AreGuarded, no_more}, Sessions.{owed_by, Session, planned, WorkerRests, AreResting}}
-use Rattle.pas_threads.specs.{Sessions.{ScavengerRests, HasPlaces, TeamAt, WorkersRest}, Turns.{owed_at, said_by, said_kept, said_by_keepers, WokeAll}}
-use Rattle.pas_threads.specs.{declared.{workers.Worker.Worker, phases.Team.Team, scavenger.Scavenger.Scavenger}, Hands.WorkerAt, Settling.ActorsStand}
-use Rattle.pas_threads.{specs.Performing.{Round, round, IsReady, ScavengerHas}, proofs.{Closing.turns_stand, Staging.team_stands, TakingTurns.woke_rest}}
-use Rattle.pas_threads.proofs.Keepers.{guarded_alike, kept_waits, kept_still, none_there}
-use Rattle.pas_bits.specs.declared.mask.Mask4.{Mask4}
-use Rattle.pas_steps.specs.Lists.{Whole, part}
-use Rattle.pas_shared.specs.declared.region.SharedRegion.{SharedRegion}
-use Rattle.pas_cache.specs.Caches.{Cached, cached}
-use Rattle.pas_records.specs.{declared.record.Record.Record, Rooms.room_of}
+use Rattle.std.proofs.{Common.{arith, append_assoc, length-append, ◌-◌, subst, MatchOption, is_some, false, map, nat_lt}, lemmas.Bool.Decides.nat_tests}
+use Rattle.std.specs.Vec.{with_items}
+use Rattle.pas_threads.proofs.Common.{false≢true, or_right, with_items_is, get_or-map, Profile, keeper_in, records_of_ops, own_records, all_ops, Work, Op}
+use Rattle.pas_threads.proofs.Common.{act_kept, own_acts, scavenger_acts, idle_threads, is_active, own_both, Progress, records_by, by_actors, costs_of}
+use Rattle.pas_threads.proofs.Common.{own_costs_of, all_front, idle_few, sits_still, sits_for, sound_front, LaterKept, for_guards, Later, NamesAt, names_asked}
+use Rattle.pas_threads.proofs.Common.{NameBook, owed_kept, keeper_at, AreGuarded, no_more, owed_by, Session, planned, WorkerRests, AreResting, ScavengerRests}
+use Rattle.pas_threads.proofs.Common.{HasPlaces, TeamAt, WorkersRest, owed_at, said_kept, said_by_keepers, WokeAll, Worker, Team, Scavenger, WorkerAt}
+use Rattle.pas_threads.proofs.{Common.{ActorsStand, Round, round, IsReady, Mask4, Whole, part, SharedRegion, Record, room_of}, Closing.turns_stand}
+use Rattle.pas_threads.proofs.{Staging.team_stands, TakingTurns.{woke_rest, owed_now}, Keepers.{guarded_alike, kept_waits, kept_still, none_there}}
+use Rattle.pas_threads.specs.{Turns.said_by, Performing.ScavengerHas}
+use Rattle.pas_answers.{specs.Fit.{own_cost_of_act, cost_of_work, cost_of_what}, proofs.SingleActs.sum_both}
+use Rattle.pas_trace.specs.{EveryPlan.{records_of_what, records_of_work}, EveryPhase.FreesItsOwn}
+use Rattle.pas_acts.{proofs.{ActsOfPlan.work_costs, Naming.names_before}, specs.NameBooks.ArePlaced}
 
 -- ---- a thread
 cost_le : (f : Profile) (work : Work) → cost_of_work work ≤ records_of_work f work
@@ -36,14 +29,12 @@ own_costs f k [] = omega arith
 own_costs f k (op ∷ ops) = search (arith, own_kept, cost_le, op.actor == k, own_costs f k ops)
 
 -- ---- the scavenger
-all_scavenged : (f : Profile) (idle : List ℕ) (ops : List Op) → length idle ≤ f.threads → costs_of f.pages (scavenger_acts idle ops) ≤ own_records f 0 ops
-all_scavenged f idle [] few = omega arith
-all_scavenged f idle (op ∷ ops) few = search (arith, sum_both, work_costs, op.actor == 0, all_scavenged f idle ops few)
-
 -- What the scavenger's acts of a phase cost is at most the records that its operations are counted for.
 pub scavenger_costs : (f : Profile) (threads : ℕ) (idle : List ℕ) (ops : List Op) → length idle ≤ threads
     → costs_of f.pages (scavenger_acts idle ops) ≤ own_records (record f { threads = threads }) 0 ops
-scavenger_costs f threads idle ops few = all_scavenged (record f { threads = threads }) idle ops few
+scavenger_costs f threads idle [] few = omega arith
+scavenger_costs f threads idle (op ∷ ops) few =
+    search (arith, sum_both, work_costs (record f { threads = threads }), op.actor == 0, scavenger_costs f threads idle ops few)
 
 -- ---- all actors
 -- what the operations of the first n threads make
@@ -60,13 +51,10 @@ one_more : (f : Profile) (op : Op) (ops : List Op) (n : ℕ) → own_by f (op �
 one_more f op ops zero = omega arith
 one_more f op ops (suc n) = let rest = one_more f op ops n in omega (arith, rest)
 
-none_of_them : (actor count n : ℕ) → n < actor → (if actor == 0 then count else 0) + those_of actor count n ≡ 0
-none_of_them actor count zero far = grind (arith, ne_eqb)
-none_of_them actor count (suc n) far = let rest = none_of_them actor count n (omega (arith, far)) in grind (arith, rest, ne_eqb)
-
-one_at_most : (actor count n : ℕ) → (if actor == 0 then count else 0) + those_of actor count n ≤ count
-one_at_most actor count zero = search (arith, actor == 0)
-one_at_most actor count (suc n) = let rest = one_at_most actor count n in grind (arith, rest, cases_eq, eq-eqb, ne_eqb, none_of_them)
+-- .. of one of them all, and of none past them
+once : (actor count n : ℕ) → (if actor == 0 then count else 0) + those_of actor count n ≡ (if nat_lt n actor then 0 else count)
+once actor count zero = grind (arith, nat_tests)
+once actor count (suc n) = let rest = once actor count n in grind (arith, rest, nat_tests)
 
 own_none : (f : Profile) (n : ℕ) → own_by f [] n ≡ 0
 own_none f zero = refl
@@ -76,7 +64,7 @@ own_none f (suc n) = let rest = own_none f n in omega (arith, rest)
 pub own_all : (f : Profile) (ops : List Op) (n : ℕ) → own_records f 0 ops + own_by f ops n ≤ records_of_ops f ops
 own_all f [] n = let none = own_none f n in omega (arith, none)
 own_all f (op ∷ ops) n =
-    let rest = own_all f ops n in grind (arith, rest, one_more, one_at_most)
+    grind (arith, own_all f ops n, one_more, once)
 
 -- ---- what they said
 by_last : (k n : ℕ) (rs : List Record) → length (by_actors k (suc n) rs) ≡ length (by_actors k n rs) + length (records_by (k + n) rs)
@@ -96,14 +84,14 @@ pub all_paid : (s : Session) (ops : List Op) (said : List Record) (old new : Lis
     → length (by_actors 1 n said) + length (by_actors (s.threads + 1) n said) + owed_by s new q n ≤ owed_by s old p n + own_by (planned s) ops n
 all_paid s ops said old new p q zero few = omega arith
 all_paid s ops said old new p q (suc n) few =
-    let rest = all_paid s ops said old new p q n in grind (arith, rest, by_last)
+    grind (arith, all_paid s ops said old new p q n, by_last)
 
 -- Where each thread and its keeper owe at most what they owed, all together do.
 pub owed_less : (s : Session) (old new : List Worker) (p q : Progress) (n : ℕ) → ((i : ℕ) → i < n → owed_pair s new q i ≤ owed_pair s old p i)
     → owed_by s new q n ≤ owed_by s old p n
 owed_less s old new p q zero less = omega arith
 owed_less s old new p q (suc n) less =
-    let rest = owed_less s old new p q n in grind (arith, rest)
+    grind (arith, owed_less s old new p q n)
 
 -- ---- workers that said what is theirs
 pub said_in_order : (says : Worker → List Record) (k : ℕ) (workers : List Worker) (said : List Record)
@@ -112,45 +100,41 @@ pub said_in_order : (says : Worker → List Record) (k : ℕ) (workers : List Wo
 said_in_order says k [] said each = refl
 said_in_order says k (w ∷ ws) said each =
     let same : k + 0 ≡ k = omega arith in
-    ap (λ (rs : List Record). rs ++ said_by says ws) (each 0 w (omega arith) ∙ ap (λ (j : ℕ). records_by j said) same)
-    ∙ ap (λ (rs : List Record). records_by k said ++ rs)
-    (said_in_order says (k + 1) ws said (λ i d lt. each (suc i) d (omega (arith, lt)) ∙ ap (λ j. records_by j said) (let is : k + suc i ≡ k + 1 + i = omega arith in is)))
+    let later = λ (i : ℕ) (d : Worker) (lt : i < length ws). each (suc i) d (omega (arith, lt))
+    ∙ ap (λ j. records_by j said) (let is : k + suc i ≡ k + 1 + i = omega arith in is) in
+    cc (each 0 w (omega arith), same, said_in_order says (k + 1) ws said later)
 
 none_said : (workers : List Worker) → ((i : ℕ) (d : Worker) → i < length workers → is_some (get_or workers i d).keeper ≡ false) → said_by_keepers workers ≡ []
 none_said [] none = refl
-none_said (w ∷ ws) none = ap (λ o. said_by_keeper o ++ said_by_keepers ws) (none_there w.keeper (none 0 w (omega arith)))
-    ∙ none_said ws (λ i d lt. none (suc i) d (omega (arith, lt)))
+none_said (w ∷ ws) none = cc (none_there w.keeper (none 0 w (omega arith)), none_said ws (λ i d lt. none (suc i) d (omega (arith, lt))))
 
 -- .. for their keepers, of which there may be none
 pub kept_in_order : (threads : ℕ) {keepers : ℕ} (workers : List Worker) (said : List Record) → AreGuarded keepers workers
     → ((i : ℕ) (d : Worker) → i < length workers → said_kept (get_or workers i d) ≡ records_by (threads + suc i) said)
     → said_by_keepers workers ≡ by_actors (threads + 1) keepers said
-kept_in_order threads workers said (true, many, all) each = search (arith, said_in_order)
-kept_in_order threads workers said (false, none, all) each = search (arith, none_said)
+kept_in_order threads {keepers} workers said guarded each = search (arith, said_in_order, none_said)
 
 -- what the keepers said is not more than what so many actors behind the threads said
 pub kept_few : (threads : ℕ) {keepers : ℕ} (workers : List Worker) (said : List Record) → AreGuarded keepers workers
     → length (by_actors (threads + 1) keepers said) ≤ length (by_actors (threads + 1) (length workers) said)
-kept_few threads workers said (true, many, all) = search arith
-kept_few threads workers said (false, none, all) = search arith
+-- With a keeper each and without any.
+kept_few threads {keepers} workers said guarded = search arith
 
 -- those of so many actors are those of more, where none of the others said anything
 by_fewer : (k n m : ℕ) (said : List Record) → n ≤ m → ((j : ℕ) → k + n ≤ j → records_by j said ≡ []) → by_actors k m said ≡ by_actors k n said
 by_fewer k zero zero said le none = refl
-by_fewer k zero (suc m) said le none =
-    ap (λ rs. rs ++ by_actors (k + 1) m said) (none k (omega arith)) ∙ by_fewer (k + 1) zero m said (omega arith) (λ j far. none j (omega (arith, far)))
+by_fewer k zero (suc m) said le none = cc (none k (omega arith), by_fewer (k + 1) zero m said (omega arith) (λ j far. none j (omega (arith, far))))
 by_fewer k (suc n) zero said bad none = absurd (omega (arith, bad))
-by_fewer k (suc n) (suc m) said le none =
-    ap (λ rs. records_by k said ++ rs) (by_fewer (k + 1) n m said (omega (arith, le)) (λ j far. none j (omega (arith, far))))
+by_fewer k (suc n) (suc m) said le none = cc (by_fewer (k + 1) n m said (omega (arith, le)) (λ j far. none j (omega (arith, far))))
 
 -- those of some and then of others
 by_both : (k n m : ℕ) (said : List Record) → by_actors k (n + m) said ≡ by_actors k n said ++ by_actors (k + n) m said
 by_both k zero m said =
     ap (λ l. by_actors k l said) (let is : 0 + m ≡ m = omega arith in is) ∙ ap (λ j. by_actors j m said) (let is : k ≡ k + 0 = omega arith in is)
 by_both k (suc n) m said =
+    let at : k + 1 + n ≡ k + suc n = omega arith in
     ap (λ (l : ℕ). by_actors k l said) (let is : suc n + m ≡ suc (n + m) = omega arith in is)
-    ∙ ap (λ rs. records_by k said ++ rs) (by_both (k + 1) n m said ∙ ap (λ j. by_actors (k + 1) n said ++ by_actors j m said) (let is : k + 1 + n ≡ k + suc n = omega arith in is))
-    ∙ sym (append_assoc (records_by k said) (by_actors (k + 1) n said) (by_actors (k + suc n) m said))
+    ∙ cc (by_both (k + 1) n m said, at, append_assoc (records_by k said) (by_actors (k + 1) n said) (by_actors (k + suc n) m said))
 
 -- all that was said: by the scavenger, by the threads, and by the keepers behind them
 pub by_all : (threads keepers most : ℕ) (said : List Record) → threads + keepers ≤ most → ((k : ℕ) → threads + keepers < k → records_by k said ≡ [])
@@ -195,9 +179,6 @@ active_back k (op ∷ ops) left on = or_right (op.actor == k) (is_active (ops ++
 
 -- ---- a thread
 module _ {region f k worker q : _} (g : Profile) (ops left : List Op) (rests : WorkerRests region f k worker (own_records g k (ops ++ left)) q) where
-  owed_is : owed_at f k q ≡ owed_events f (cached worker.cache) (part k q.list)
-  owed_is = ap (λ (c : Cached). owed_events f c (part k q.list)) rests.here.rests.cache
-
   -- its acts cost no more than was set apart for them
   worker_ready : {book : NameBook} {p : Progress} (book1 : NameBook) (later : Later) (at : NamesAt f (ops ++ left) book p) → 1 ≤ k → FreesItsOwn k at.asked ops
       → book1.names ≡ book.names → ArePlaced book1 0 (names_asked (own_acts k ops)) → q.names ≡ p.names
@@ -211,7 +192,7 @@ module _ {region f k worker q : _} (g : Profile) (ops left : List Op) (rests : W
         stands = record {
           sits = sits_for rests.here.rests.sits (omega (arith, few, both, events));
           cache = rests.here.rests.cache;
-          spare = omega (arith, few, both, owed_is, rests.here.rests.spare, ap length rests.said, records);
+          spare = omega (arith, few, both, owed_now rests.here, rests.here.rests.spare, ap length rests.said, records);
           names = names_before k ops left book1 worker.requests at some frees same placed rests.asked (omega (arith, few, both, rests.requests)) are;
         };
       }
@@ -223,8 +204,7 @@ scavenger_ready : {region : SharedRegion} (s : Session) (book : NameBook) {scave
     → (later 0).records ≡ room_of scavenger.out - costs_of s.profile.pages (scavenger_acts (idle_threads s.threads ops) ops)
     → ScavengerHas region (round s book ops later (more_beside left) q) scavenger
 scavenger_ready s book ops left later rests parts events records =
-    let f = s.profile in
-    let few = scavenger_costs f s.threads (idle_threads s.threads ops) ops (idle_few s.threads ops) in
+    let few = scavenger_costs s.profile s.threads (idle_threads s.threads ops) ops (idle_few s.threads ops) in
     let both = own_both (planned s) 0 ops left in
     record {
       has = rests.has;
@@ -239,8 +219,7 @@ woke_workers : {region s : _} (awake : Mask4) {workers now p : _} (ops : List Op
 woke_workers {s = s} awake {workers} {now} ops at many woke = record {
   many = many ∙ at.many;
   threads = woke_rest many at.threads woke;
-  guarded = guarded_alike workers now many
-      (λ i d lt. ap is_some (woke.turns.told i d lt).keeper) at.guarded;
+  guarded = search (arith, guarded_alike);
   kept = search (arith, kept_still) fits 400;
 }
 
@@ -285,9 +264,9 @@ pub record HasBegun (region : SharedRegion) (s : Session) (awake : Mask4) (ops :
   pub names : team1.book.names ≡ team.book.names
   pub ready : IsReady region (round_of s ops rest team1 woke.turns.came.reached) team1
 
--- the team with these workers, which the ledger was settled with, and this book
-abbrev pub settled_team : Team → List Worker → List Worker → Scavenger → NameBook → Team
-settled_team team now again scavenger book = record team { threads = with_items (with_items team.threads now) again; scavenger = scavenger; book = book }
+-- the team with these workers, this scavenger and this book
+abbrev pub settled_team : Team → List Worker → Scavenger → NameBook → Team
+settled_team team now scavenger book = record team { threads = with_items team.threads now; scavenger = scavenger; book = book }
 
 -- the threads woke, as they were handed to what woke them
 abbrev WakesThem : SharedRegion → Mask4 → List Worker → List Worker → Type 0
@@ -300,30 +279,25 @@ woke_then {region} s awake ops {now = now} {p} at value wakes =
     subst (λ (ws : List Worker). WokeAll region s.profile awake ws now later p) value
     (wakes s.profile later p (subst (λ (ws : List Worker). AreResting region s.profile ws later p) (sym value) at.threads))
 
--- (`given` are the team's workers, as they are handed to what wakes them, `now` what they are afterwards, and so `given2` and `again` for what settles the ledger)
-pub begun_as : {region s awake team p given now given2 again scavenger : _} {book : NameBook} (ops : List Op) (rest : List (List Op))
+-- (`given` are the team's workers, as they are lent, `now` what they are once they woke, and `again` once the ledger was settled)
+pub begun_as : {region s awake team p given now again scavenger : _} {book : NameBook} (ops : List Op) (rest : List (List Op))
     → TeamAt region s (ops ∷ rest) team p → given ≡ team.threads.items → length given ≡ team.threads.len
     → ((g : Profile) (later : ℕ → ℕ) (o : Progress) → AreResting region g given later o → WokeAll region g awake given now later o) → length now ≡ length given
-    → given2 ≡ (with_items team.threads now).items → length given2 ≡ team.threads.len → again ≡ given2 → scavenger ≡ team.scavenger
-    → book.names ≡ team.book.names → ((k : ℕ) → ArePlaced book 0 (names_asked (own_acts k ops)))
-    → HasBegun region s awake ops rest team (settled_team team now again scavenger book) p
-begun_as {region} {s} {awake} {team} {p} {given} {now} {given2} {again} {scavenger} {book} ops rest at value len wakes many value2 len2 same same_scavenger names placed =
+    → again ≡ now → scavenger ≡ team.scavenger → book.names ≡ team.book.names → ((k : ℕ) → ArePlaced book 0 (names_asked (own_acts k ops)))
+    → HasBegun region s awake ops rest team (settled_team team again scavenger book) p
+begun_as {region} {s} {awake} {team} {p} {given} {now} {again} {scavenger} {book} ops rest at value len wakes many same same_scavenger names placed =
     let left = all_ops (ops ∷ rest) in
-    let team1 = settled_team team now again scavenger book in
-    let items : team1.threads.items ≡ now =
-    with_items_is (with_items team.threads now) again (ap length same ∙ len2) ∙ same ∙ value2 ∙ with_items_is team.threads now (many ∙ len) in
+    let team1 = settled_team team again scavenger book in
+    let items : team1.threads.items ≡ now = with_items_is team.threads again (ap length same ∙ many ∙ len) ∙ same in
     let woke : WokeAll region s.profile awake team.threads.items team1.threads.items (λ k. own_records (planned s) k left) p =
-    subst (λ (ws : List Worker). WokeAll region s.profile awake team.threads.items ws (λ k. own_records (planned s) k left) p) (sym items)
-    (woke_then s awake left at.workers value wakes) in
+    rw items (woke_then s awake left at.workers value wakes) in
     let workers = woke_workers awake left at.workers (ap length items ∙ many ∙ ap length value) woke in
-    let lent = subst (λ (v : Scavenger). s.threads ≤ vec_capacity v.lent) (sym same_scavenger) at.places.lent in
     record {
       woke = woke;
       workers = workers;
       scavenger = same_scavenger;
       names = names;
-      ready = team_ready awake ops rest team1 at woke workers same_scavenger names placed
-          (record { workers = at.places.workers; hands = at.places.hands; lent = lent; free = at.places.free });
+      ready = team_ready awake ops rest team1 at woke workers same_scavenger names placed (rw same_scavenger at.places);
     }
 
 -- all actors stand then

@@ -1,27 +1,22 @@
 -- The phases of a replay: acts without a mark, acts after one another, how stages follow each other, and what a settled ledger has of a team.
 use Rattle.std.proofs.Common.{◌≡◌, ℕ, zero, suc, ◌+◌, ◌-◌, ◌<◌, ◌≤◌, ◌==◌, Bool, true, inl, inr, List, [], ◌∷◌, ◌++◌, length, map, get_or, Option, Some, refl}
 use Rattle.std.proofs.Common.{ap, sym, ◌∙◌, subst, arith, append_assoc, ◌⊎◌, take, length-append, eq-eqb, true≢false, take_at, All, false}
-use Rattle.std.{proofs.lemmas.{Bool.{cases_lt, cases_Bool}, Option.same_Some}, specs.List.AllByRecursion}
-use Rattle.pas_profile.{specs.declared.profile.Profile.Profile, proofs.Lists.all_both}
-use Rattle.pas_steps.specs.{Lists.{Whole, part, Triple}, Desks.triples}
-use Rattle.pas_trace.specs.Acts.{Act, MarksPhase, MarksClose, Wakes, Ends, Lowers, active_threads, idle_threads, numbers_from, own_acts, act_kept, acts_of_work}
-use Rattle.pas_trace.specs.{Acts.{acts_of_ops, phase_acts}, Asked.work_of, EveryPlan.all_ops, declared.plan.Op.Op}
-use Rattle.pas_shared.specs.{Ruled.IsEarlier, Passes.{seat_of, view_of, IsPassOf}, declared.{region.SharedRegion.SharedRegion, pass.SharedPass.SharedPass}}
-use Rattle.pas_acts.specs.{Keepers.LaterKept, Pairs.KeeperWaits}
-use Rattle.pas_answers.specs.{Answers.Progress, Reaching.Reaches, Phases.{AreInPhases, StandFirst, AtMark}, Stages.{itself, in_hands, Stage, stage, Owners}}
-use Rattle.pas_answers.{specs.Stages.AreSorted, proofs.Reached.{reach_both, goes_on, both_by_stages}}
-use Rattle.pas_threads.specs.{Settling.{StandsIn, KeeperStandsIn, WorkerStandsIn, IsUp, PassStands, ActorsStand}, Left.KeepsOrder, Pairs.no_more}
-use Rattle.pas_threads.specs.{Pairs.{kept_by_worker, AreGuarded, HasKeeper, IsKeeperOf}, Sessions.{Session, closing_acts, WorkerHas, TeamAt, IsOfActors}}
-use Rattle.pas_threads.{specs.{Sessions.{StandSo, WentBy}, declared.{keeper.Keeper.Keeper, phases.Team.Team, workers.Worker.Worker}}, proofs.Dealt.some_item}
-use Rattle.pas_threads.proofs.Keepers.{kept_there}
-use Rattle.pas_core.{specs.Orders.steps_by, proofs.Choosing.{part_of_chosen, steps_by_both, Within, steps_by_one, no_steps_by, as_many_steps}}
+use Rattle.std.specs.List.{AllByRecursion}
+use Rattle.pas_threads.proofs.Common.{cases_lt, cases_Bool, same_Some, Profile, Whole, part, triples, Act, own_acts, act_kept, acts_of_ops, phase_acts, work_of}
+use Rattle.pas_threads.proofs.Common.{all_ops, Op, IsEarlier, seat_of, view_of, IsPassOf, SharedRegion, SharedPass, LaterKept, KeeperWaits, Progress, Reaches}
+use Rattle.pas_threads.proofs.Common.{AreInPhases, StandFirst, AtMark, itself, in_hands, Stage, stage, reach_both, goes_on, StandsIn, KeeperStandsIn}
+use Rattle.pas_threads.proofs.Common.{WorkerStandsIn, IsUp, PassStands, ActorsStand, KeepsOrder, no_more, kept_by_worker, AreGuarded, IsKeeperOf, Session}
+use Rattle.pas_threads.proofs.Common.{closing_acts, WorkerHas, TeamAt, IsOfActors, StandSo, WentBy, Keeper, Team, Worker, steps_by, part_of_chosen}
+use Rattle.pas_threads.{proofs.{Dealt.some_item, Keepers.kept_there}, specs.Pairs.HasKeeper}
+use Rattle.pas_profile.proofs.Lists.{all_both}
+use Rattle.pas_steps.specs.Lists.{Triple}
+use Rattle.pas_answers.{specs.Stages.{Owners, AreSorted}, proofs.{Reached.both_by_stages, EachAct.{all_of, all_any}}}
+use Rattle.pas_core.proofs.Choosing.{steps_by_both, Within, steps_by_one, no_steps_by, as_many_steps, steps_by_all, steps_by_nobody}
 use Rattle.pas_guard.proofs.Keepers.{part_both}
 
 -- ---- acts without a mark
 abbrev HasNoMark : Act → Type 0
-HasNoMark (MarksPhase n) = ⊥
-HasNoMark MarksClose = ⊥
-HasNoMark act = Unit {0}
+HasNoMark act = AtMark act ⊥
 
 abbrev pub AreUnmarked : List Act → Type 0
 AreUnmarked = AllByRecursion HasNoMark
@@ -36,8 +31,7 @@ unmarked f [] p q is whole none = tt
 unmarked f (act ∷ acts) p q is whole none = (at_no_mark act (StandFirst p.list whole) none.0, unmarked f acts is.0 q is.2 whole none.1)
 
 unmarked_each : (of : ℕ → Act) → ((k : ℕ) → HasNoMark (of k)) → (ks : List ℕ) → AreUnmarked (map of ks)
-unmarked_each of none [] = tt
-unmarked_each of none (k ∷ ks) = (none k, unmarked_each of none ks)
+unmarked_each of none ks = all_of HasNoMark (λ k. Unit {0}) of ks (λ k any. none k) (all_any ks)
 
 unmarked_kept : (o : Option ℕ) (op : Op) → HasNoMark (act_kept o op)
 -- With one and without one.
@@ -46,18 +40,15 @@ unmarked_kept a op = search arith
 unmarked_ops : (idle : List ℕ) (ops : List Op) → AreUnmarked (acts_of_ops idle ops)
 unmarked_ops idle [] = tt
 unmarked_ops idle (op ∷ ops) =
-    all_both HasNoMark (acts_of_work idle op (work_of op.what)) (acts_of_ops idle ops) (search (arith, unmarked_kept, unmarked_each, work_of op.what))
-    (unmarked_ops idle ops)
+    search (arith, all_both, unmarked_kept, unmarked_each, work_of op.what, unmarked_ops idle ops)
 
 -- The acts of one phase have no mark among them.
 pub phase_unmarked : (threads : ℕ) (ops : List Op) → AreUnmarked (phase_acts threads ops)
-phase_unmarked threads ops = all_both HasNoMark (map Wakes (active_threads threads ops)) (acts_of_ops (idle_threads threads ops) ops)
-    (unmarked_each Wakes (λ k. tt) (active_threads threads ops)) (unmarked_ops (idle_threads threads ops) ops)
+phase_unmarked threads ops = search (arith, all_both, unmarked_each, unmarked_ops)
 
 -- The acts of the close behind its mark have no mark among them.
 pub close_unmarked : (threads keepers : ℕ) → AreUnmarked (closing_acts threads keepers)
-close_unmarked threads keepers = all_both HasNoMark (map Ends (numbers_from 1 threads)) (map Lowers (numbers_from (threads + 1) keepers))
-    (unmarked_each Ends (λ k. tt) (numbers_from 1 threads)) (unmarked_each Lowers (λ k. tt) (numbers_from (threads + 1) keepers))
+close_unmarked threads keepers = search (arith, all_both, unmarked_each)
 
 -- ---- acts after one another
 pub in_both : (f : Profile) (xs ys : List Act) (p q r : Progress) (one : Reaches f xs p q) (two : Reaches f ys q r) (whole : Whole)
@@ -185,14 +176,10 @@ front_same k a b c d all behind = cut_fronts (part k a) (part k b) (part k c) (p
 front_none : (k : ℕ) (a b : Whole) → part k (a ++ b) ≡ part k b → part k a ≡ []
 front_none k a b all = front_same k a b [] b all refl
 
--- a list in which nobody has a part is empty
+-- who made a step has a part
 has_step : (t : Triple) (l : Whole) → part t.actor (t ∷ l) ≡ [] → ⊥
 has_step t l none =
     search (arith, eq-eqb)
-
-nobody_nothing : (l : Whole) → ((k : ℕ) → part k l ≡ []) → l ≡ []
-nobody_nothing [] none = refl
-nobody_nothing (t ∷ l) none = absurd (has_step t l (none t.actor))
 
 -- ---- all actors
 -- what stands of the actors stands of everybody, where nobody else has a part
@@ -206,7 +193,9 @@ of_first s {before} {after} earlier of k past = none_first k earlier.0 before (a
 -- a list that goes on from another one, and has the same part of everybody, is that one
 pub nothing_since : {before after : Whole} → IsEarlier before after → ((k : ℕ) → part k after ≡ part k before) → after ≡ before
 nothing_since {before} {after} earlier same =
-    earlier.1 ∙ ap (λ (l : Whole). l ++ before) (nobody_nothing earlier.0 (λ k. front_none k earlier.0 before (ap (part k) (sym earlier.1) ∙ same k)))
+    let none = λ (k : ℕ). front_none k earlier.0 before (ap (part k) (sym earlier.1) ∙ same k) in
+    let all = sym (steps_by_all (λ k. false) earlier.0 (λ k off. none k)) ∙ steps_by_nobody (λ k. false) earlier.0 (λ k. refl) in
+    earlier.1 ∙ ap (λ (l : Whole). l ++ before) all
 
 -- ---- stages one after the other
 pub went_none : (s : Session) {p : Progress} {l : Whole} → StandSo s l p.list → IsOfActors s p.list → WentBy s [] p p l l

@@ -1,43 +1,32 @@
 -- How a kit is made, where its team stands when a replay starts, and what its end gives.
+use Rattle.pas_threads.proofs.Common.{pass_in, get_or-append, cases_eq, cases_lt, length-map, get_or_push, All-set, same_Some, shown, EventRoom, Profile}
+use Rattle.pas_threads.proofs.Common.{own_acts, keeper_in, all_ops, own_records, kept_records, IsPlanOf, bounds_of, ops_of, Op, Phase, Plan, every_plan}
+use Rattle.pas_threads.proofs.Common.{plan_actors, Cached, cached, IsPassOf, seat_of, view_of, SharedPass, SharedRegion, owed_events, names_held, Progress}
+use Rattle.pas_threads.proofs.Common.{OnThreads, stages_of, at_start, phases_of, region_of, threads_of, keepers_of, guarded_of, AreRooms, LaterKept, for_guards}
+use Rattle.pas_threads.proofs.Common.{AreTriedBy, AreUnguarded, is_guarded, plan_threads, PassStands, ActorsStand, IsEquipped, AreEquipped, AreNew, IsSupplied}
+use Rattle.pas_threads.proofs.Common.{kept_pass, own_passes, passes_in, no_more, KeeperRests, owed_kept, keeper_at, AreGuarded, IsLow, Session, WorkerRests}
+use Rattle.pas_threads.proofs.Common.{ScavengerRests, TeamAt, HasRoom, owed_by, IsOfActors, HasReplayed, Keeper, Scavenger, Worker, Team, Whole, part}
+use Rattle.pas_threads.proofs.{Common.{records_in, room_of, Records, Record}, Dealt.some_item, Keepers.{keeper_is, stands_for, none_there}}
+use Rattle.pas_threads.proofs.{TakingTurns.{set_each, each_pushed}, Staging.{nothing_since, of_first, stand_all, stands_with, team_stands, of_all}}
+use Rattle.pas_threads.specs.Kits.{passes_with, IsNew, IsKeeperFor, IsKitOf}
 use Rattle.std.proofs.Common.{◌≡◌, ℕ, zero, suc, ◌+◌, ◌*◌, ◌<◌, ◌≤◌, ◌==◌, List, [], ◌∷◌, ◌++◌, length, map, get_or, slice_index, slice_index_or, Bool}
-use Rattle.std.proofs.Common.{if◌then◌else◌, inl, inr, Option, Some, None, refl, ap, sym, ◌∙◌, subst, arith, ne_eqb, length-set, ◌-◌, ◌/◌, All, length-append}
-use Rattle.std.proofs.{Common.{is_some, true, false, eqb-true, true≢false}, Math.{ListN.{set, get_or-append}, Nat.{suc-mul, add-mul}, Seq.get_or-append-add}}
-use Rattle.std.proofs.lemmas.{Bool.{cases_eq, cases_lt}, List.{length-map, get_or_push, Elements.{All-set, Contains-append_left, Contains-append_right}}}
-use Rattle.std.{proofs.lemmas.{List.{Elements.{All-nil, All-cons, All-append}, get_or-map}, Option.same_Some}, specs.List.{remove, Contains}}
-use Rattle.pas_profile.specs.{Rooms.{shown, EventRoom, size_of_room}, declared.{profile.Profile.Profile, guard.Guard.Guard}, Profiles.IsValid}
-use Rattle.pas_trace.specs.{Acts.own_acts, Asked.keeper_in, EveryPlan.{all_ops, own_records, kept_records, AreKept}, Plans.{IsPlanOf, bounds_of, ops_of}}
-use Rattle.pas_trace.{specs.{Plans.phases_of as the_phases, declared.plan.{Op.Op, Phase.Phase, Plan.Plan}}, proofs.EveryPlan.{every_plan, every_phase}}
-use Rattle.pas_trace.proofs.{EveryPlan.few_operations, Keepers.plan_actors}
-use Rattle.pas_guard.specs.Books.{guards_in, FitsBook, is_outer}
-use Rattle.pas_cache.{specs.Caches.{Cached, cached}, proofs.FlushesAndFrees.rests_empty}
-use Rattle.pas_shared.specs.{Passes.{IsPassOf, seat_of, view_of, AreFresh}, declared.{pass.SharedPass.SharedPass, region.SharedRegion.SharedRegion}}
-use Rattle.pas_shared.specs.Ledgers.{EndsAfter}
-use Rattle.pas_answers.specs.{Calls.owed_events, Names.names_held, Answers.Progress, Ways.OnThreads, Stages.{stages_of, GoByStages}, Replays.at_start}
-use Rattle.pas_answers.{specs.{Replays.{phases_of, region_of, threads_of, keepers_of, acts_of_plan, Shows}, Fit.AreOfThreads}, proofs.Consequences.replays}
-use Rattle.pas_acts.specs.{PlanKeepers.guarded_of, Parts.AreRooms, Shares.AreKeptBehind, Keepers.{LaterKept, KeeperAt, keeper_has}, Pairs.for_guards}
-use Rattle.pas_acts.{specs.Pairs.{AreTriedBy, AreUnguarded}, proofs.PlanFacts.{is_guarded, plan_threads, pages_owed_at_first, plan_above, wider_sound}}
-use Rattle.pas_acts.proofs.{PlanFacts.no_slots, Naming.{below_all, names_at_start}, PhaseActs.active_within}
-use Rattle.pas_threads.specs.{Hands.standing_of_pass, Settling.{PassStands, ActorsStand}, Kits.{IsEquipped, AreEquipped, AreNew, IsSupplied, kept_pass, IsBack}}
-use Rattle.pas_threads.specs.{Kits.{passes_in, IsNew, IsKeeperFor, IsKitOf, slots_of}, Pairs.{no_more, KeeperRests, owed_kept, keeper_at, AreGuarded, IsLow}}
-use Rattle.pas_threads.specs.{Sessions.{Session, WorkerRests, ScavengerRests, TeamAt, HasRoom, owed_by, IsOfActors, HasReplayed}, declared.keeper.Keeper.Keeper}
-use Rattle.pas_threads.specs.declared.{scavenger.Scavenger.Scavenger, workers.Worker.Worker, phases.Team.Team, kit.SharedKit.SharedKit}
-use Rattle.pas_threads.proofs.{Dealt.some_item, Keepers.{keeper_is, stands_for, none_there}, TakingTurns.{set_each, each_pushed}, Staging.nothing_since}
-use Rattle.pas_threads.proofs.Staging.{of_first, stand_all, stands_with, team_stands, of_all}
-use Rattle.pas_steps.{specs.{Lists.{Whole, part, Legal}, Clear.HasNothing, declared.state.State.State}, proofs.Nothing.nothing_yet}
-use Rattle.pas_records.specs.{Rooms.{records_in, room_of, Records}, declared.record.Record.Record}
+use Rattle.std.proofs.Common.{if◌then◌else◌, inl, inr, Option, Some, None, refl, ap, sym, ◌∙◌, subst, arith, ne_eqb, length-set, ◌-◌, All, length-append}
+use Rattle.std.proofs.{Common.{is_some, true, false, eqb-true, true≢false}, lemmas.List.Elements.{All-contains, Contains-append_left, Contains-append_right}}
+use Rattle.std.proofs.{lemmas.List.Elements.{All-nil, All-cons, All-append}, Math.{ListN.set, Nat.{suc-mul, add-mul}, Seq.get_or-append-add}}
+use Rattle.std.specs.List.{remove, Contains}
+use Rattle.pas_profile.specs.{Rooms.size_of_room, Profiles.IsValid}
+use Rattle.pas_trace.{specs.{EveryPlan.AreKept, Plans.phases_of as the_phases}, proofs.EveryPlan.{every_phase, few_operations}}
+use Rattle.pas_cache.proofs.FlushesAndFrees.{rests_empty}
+use Rattle.pas_shared.specs.{Passes.AreFresh, Ledgers.EndsAfter}
+use Rattle.pas_answers.{specs.{Stages.GoByStages, Replays.{acts_of_plan, Shows}, Fit.AreOfThreads}, proofs.Consequences.replays}
+use Rattle.pas_acts.{specs.Shares.AreKeptBehind, proofs.{PlanFacts.{pages_owed_at_first, plan_above, wider_sound, no_slots}, Naming.below_all}}
+use Rattle.pas_acts.proofs.{Naming.names_at_start, PhaseActs.active_within}
+use Rattle.pas_steps.{specs.{Lists.Legal, Clear.HasNothing, declared.state.State.State}, proofs.Nothing.nothing_yet}
 
 -- ---- equipping
 pub equipped_more : {bounds passes after workers now : _} (pass : SharedPass) (worker : Worker) → after ≡ passes ++ pass ∷ [] → now ≡ workers ++ worker ∷ []
     → AreEquipped bounds passes workers → IsEquipped pass (slice_index bounds (suc (length workers))) worker → AreEquipped bounds after now
-equipped_more {bounds} {passes} {after} {workers} {now} pass worker first second are new = record {
-  many =
-      omega (arith, ap length first, ap length second, length-append passes (pass ∷ []), length-append workers (worker ∷ []), are.many);
-  each = λ i d e lt.
-      each_pushed (λ (m : ℕ) (w : Worker). (p : SharedPass) → IsEquipped (get_or after m p) (slice_index bounds (suc m)) w) workers worker second
-      (λ p. subst (λ q. IsEquipped q (slice_index bounds (suc (length workers))) worker) (sym (ap (λ ps. get_or ps (length workers) p) first ∙ get_or_push passes pass p (length workers) (sym are.many))) new)
-      (λ m f less p. subst (λ q. IsEquipped q (slice_index bounds (suc m)) (get_or workers m f))
-      (sym (ap (λ ps. get_or ps m p) first ∙ get_or-append passes (pass ∷ []) p m (omega (arith, less, are.many)))) (are.each m p f less)) i e lt d;
-}
+equipped_more {bounds} {passes} {after} {workers} {now} pass worker first second are new = search (arith, length-append, each_pushed, get_or_push, get_or-append)
 
 -- ---- rooms that move
 -- a room of the same size without an event, in the place of one of these
@@ -74,8 +63,7 @@ all_new region bounds rooms passes fresh sizes i d lt = fresh_new region bounds 
 
 -- the first, once it is taken out, and the others
 pub first_taken : {A : Type 0} (all rest : List A) (first : A) → 0 < length all → first ≡ slice_index_or all 0 first → rest ≡ remove all 0 → all ≡ first ∷ rest
-first_taken [] rest first some is left = absurd (omega (arith, some))
-first_taken {A} (x ∷ xs) rest first some is left = ap (λ (y : A). y ∷ xs) (sym is) ∙ ap (λ (ys : List A). first ∷ ys) (sym left)
+first_taken all rest first given is left = search arith
 
 -- ---- the guarded requests of a thread
 -- each is its keeper's
@@ -104,10 +92,7 @@ guards_own k (op ∷ ops) = search (arith, op.actor == k, op.what, guards_own k 
 
 -- without keepers a plan isn't guarded
 guarded_none : (plan : Plan) → 1 ≤ threads_of plan → keepers_of plan ≡ 0 → plan.guard ≡ 0
-guarded_none plan some none = elim (cases_eq plan.guard 0) [
-  | inl is ↦ is
-  | inr other ↦ let all : keepers_of plan ≡ threads_of plan = ap (λ t. if t then 0 else threads_of plan) (ne_eqb plan.guard 0 other) in absurd (omega (arith, all, none, some))
-]
+guarded_none plan some none = search (arith, cases_eq, ne_eqb)
 
 -- ---- the start
 -- a thread that made no step is at rest
@@ -149,26 +134,12 @@ keeper_starts : (region : SharedRegion) (plan : Plan) (k : ℕ) (pass : SharedPa
     → IsNew region (threads_of plan + k) (slice_index (bounds_of plan.bounds) (threads_of plan + k)) pass → IsKeeperFor plan k pass o
     → KeeperRests region (region_of plan) (threads_of plan + k) (own_acts k (all_ops (phases_of plan))) o at_start
 keeper_starts region plan k pass o of_profile tried within unused has =
-    let f = region_of plan in
-    let ops = all_ops (phases_of plan) in
-    let actor = threads_of plan + k in
-    let there = has.there in
-    let counted = guards_own k ops in
-    let events = counted.0 in
-    let owed = pages_owed_at_first f in
-    let room = unused.room in
-    let up = ap length has.empty in
-    let fits : FitsBook f (guards_in there.book) [] =
-    subst (λ gs. FitsBook f gs []) (sym has.empty) (record { apart = tt; of_region = tt; knows = tt; held = nothing_yet.grains; rights = nothing_yet.rights; clear = nothing_yet.clear }) in
-    let at : KeeperAt f actor (keeper_has (standing_of_pass pass) there.book there.out) (for_guards (own_acts k ops) no_more) at_start =
-    search (arith, fits, room, within, events, owed, up, counted.1, counted.2, has.records, has.places) fits 400 in
-    rw has.present (rw has.pass_is (record { of = unused.of_region; waits = (tried, at); silent = has.said }))
+    search (arith, guards_own, pages_owed_at_first, nothing_yet)
 
 -- each keeper of the plan rests, if it has some
-kept_start : {text : List ℕ} {plan : Plan} {kit : SharedKit} → IsPlanOf text plan → IsKitOf plan kit → AreGuarded (keepers_of plan) kit.team.threads.items
-    → length kit.team.threads.items ≡ threads_of plan → (i : ℕ) (d : Worker) → i < length kit.team.threads.items
-    → KeeperRests kit.region (region_of plan) (threads_of plan + suc i) (own_acts (suc i) (all_ops (phases_of plan)))
-    (get_or kit.team.threads.items i d).keeper at_start
+kept_start : {text plan kit : _} → IsPlanOf text plan → IsKitOf plan kit → AreGuarded (keepers_of plan) kit.team.threads.items
+    → length kit.team.threads.items ≡ threads_of plan → (i : ℕ) (d : Worker) → i < length kit.team.threads.items → KeeperRests kit.region (region_of plan)
+    (threads_of plan + suc i) (own_acts (suc i) (all_ops (phases_of plan))) (get_or kit.team.threads.items i d).keeper at_start
 kept_start {text} {plan} {kit} read made (true, size, all) many i d lt =
     let plans = every_plan read in
     let had = made.team.keepers in
@@ -257,21 +228,14 @@ all_owed {plan} {kit} made (false, none, all) many =
     omega (arith, owed)) in
     omega (arith, each, add-mul (threads_of plan) (keepers_of plan) f.pages, ap (λ (n : ℕ). n * f.pages) none)
 
-start_room : {text : List ℕ} {plan : Plan} {kit : SharedKit} (out : Records) → IsPlanOf text plan → IsKitOf plan kit → records_in out ≡ []
-    → plan.total + length (phases_of plan) + 1 ≤ room_of out
-    → HasRoom (session_of plan) (phases_of plan) (length (the_phases plan.phases) + 1) kit.team.threads.items out at_start
-start_room {text} {plan} {kit} out read made empty room =
-    let owed = all_owed made made.team.keepers.1 (made.team.workers.many ∙ made.many) in
-    let actors = ap (λ (n : ℕ). n * (region_of plan).pages) (plan_actors plan) in
-    omega (arith, owed, (every_plan read).total, actors, ap length empty, room, length-map (the_phases plan.phases) ops_of)
-
 -- the plan as the replay is handed it
-pub handed : {text : List ℕ} {plan : Plan} {kit : SharedKit} (out : Records) (slice : List Phase) → IsPlanOf text plan → IsKitOf plan kit
-    → slice ≡ the_phases plan.phases → records_in out ≡ [] → plan.total + length (phases_of plan) + 1 ≤ room_of out
-    → TeamAt kit.region (session_of plan) (map ops_of slice) kit.team at_start
+pub handed : {text plan kit : _} (out : Records) (slice : List Phase) → IsPlanOf text plan → IsKitOf plan kit → slice ≡ the_phases plan.phases
+    → records_in out ≡ [] → plan.total + length (phases_of plan) + 1 ≤ room_of out → TeamAt kit.region (session_of plan) (map ops_of slice) kit.team at_start
     × HasRoom (session_of plan) (map ops_of slice) (length slice + 1) kit.team.threads.items out at_start
 handed {text} {plan} {kit} out slice read made is empty room =
-    rw is (start read made, start_room out read made empty room)
+    let owed = all_owed made made.team.keepers.1 (made.team.workers.many ∙ made.many) in
+    let actors = ap (λ (n : ℕ). n * (region_of plan).pages) (plan_actors plan) in
+    rw is (start read made, omega (arith, owed, (every_plan read).total, actors, ap length empty, room, length-map (the_phases plan.phases) ops_of))
 
 -- ---- handing back
 -- in a legal list no actor but those of the profile has a part
@@ -281,114 +245,111 @@ nobody_past f (t ∷ l) k past legal =
     let most = legal.0.actor in search (arith, eqb-true, t.actor == k, most, past, nobody_past f l k past legal.1)
 
 -- ---- the passes of all actors
--- the slots of a worker are among those of all
-worker_among : (workers : List Worker) (i : ℕ) (d : Worker) (slot : Option SharedPass) → i < length workers
-    → Contains ((get_or workers i d).pass ∷ kept_pass (get_or workers i d).keeper) slot → Contains (passes_in workers) slot
-worker_among [] i d slot lt has = absurd (omega (arith, lt))
-worker_among (w ∷ ws) zero d slot lt has = Contains-append_left (w.pass ∷ kept_pass w.keeper) (passes_in ws) slot has
-worker_among (w ∷ ws) (suc i) d slot lt has =
-    Contains-append_right (w.pass ∷ kept_pass w.keeper) (passes_in ws) slot (worker_among ws i d slot (omega (arith, lt)) has)
+-- the pass of a slot is among those that it gives, and that of a keeper
+in_slot : (o : Option SharedPass) (pass : SharedPass) → o ≡ Some pass → Contains (pass_in o) pass
+in_slot o pass is = rw is (0, omega arith, refl)
 
--- what is so of each slot of a worker is so of all of them
-module _ (Is : Option SharedPass → Type 0) where
-  of_kept : (o : Option Keeper) → ((keeper : Keeper) → o ≡ Some keeper → Is (Some keeper.pass)) → All Is (kept_pass o)
+in_kept : (o : Option Keeper) (keeper : Keeper) (pass : SharedPass) → o ≡ Some keeper → keeper.pass ≡ pass → Contains (kept_pass o) pass
+in_kept o keeper pass is same = rw is (0, omega arith, same)
+
+-- those of a worker are among all
+worker_among : (workers : List Worker) (i : ℕ) (d : Worker) (pass : SharedPass) → i < length workers → Contains (own_passes (get_or workers i d)) pass
+    → Contains (passes_in workers) pass
+worker_among [] i d pass lt has = absurd (omega (arith, lt))
+worker_among (w ∷ ws) zero d pass lt has = Contains-append_left (own_passes w) (passes_in ws) pass has
+worker_among (w ∷ ws) (suc i) d pass lt has = Contains-append_right (own_passes w) (passes_in ws) pass (worker_among ws i d pass (omega (arith, lt)) has)
+
+-- what is so of each pass of a worker is so of all of them
+module _ (Is : SharedPass → Type 0) where
+  of_slot : (o : Option SharedPass) → ((pass : SharedPass) → o ≡ Some pass → Is pass) → All Is (pass_in o)
+  of_slot None each = All-nil Is
+  of_slot (Some pass) each = All-cons Is pass [] (each pass refl) (All-nil Is)
+
+  of_kept : (o : Option Keeper) → ((keeper : Keeper) → o ≡ Some keeper → Is keeper.pass) → All Is (kept_pass o)
   of_kept None each = All-nil Is
-  of_kept (Some keeper) each = All-cons Is (Some keeper.pass) [] (each keeper refl) (All-nil Is)
+  of_kept (Some keeper) each = All-cons Is keeper.pass [] (each keeper refl) (All-nil Is)
 
-  of_each : (workers : List Worker) → ((i : ℕ) (d : Worker) → i < length workers → Is (get_or workers i d).pass)
-      → ((i : ℕ) (d : Worker) (keeper : Keeper) → i < length workers → (get_or workers i d).keeper ≡ Some keeper → Is (Some keeper.pass))
-      → All Is (passes_in workers)
-  of_each [] own kept = All-nil Is
-  of_each (w ∷ ws) own kept = All-cons Is w.pass (kept_pass w.keeper ++ passes_in ws) (own 0 w (omega arith))
-      (All-append Is (kept_pass w.keeper) (passes_in ws) (of_kept w.keeper (λ keeper is. kept 0 w keeper (omega arith) is))
-      (of_each ws (λ i d lt. own (suc i) d (omega (arith, lt))) (λ i d keeper lt is. kept (suc i) d keeper (omega (arith, lt)) is)))
-
-abbrev pub slots_for : List SharedPass → List (Option SharedPass)
-slots_for passes = map (λ (pass : SharedPass). Some pass) passes
+  of_each : (workers : List Worker) → ((i : ℕ) (d : Worker) → i < length workers → All Is (own_passes (get_or workers i d))) → All Is (passes_in workers)
+  of_each [] each = All-nil Is
+  of_each (w ∷ ws) each = All-append Is (own_passes w) (passes_in ws) (each 0 w (omega arith)) (of_each ws (λ i d lt. each (suc i) d (omega (arith, lt))))
 
 -- how many they are
-slots_count : (guarded : Bool) (workers : List Worker) → ((i : ℕ) (d : Worker) → i < length workers → is_some (get_or workers i d).keeper ≡ guarded)
+count_passes : (guarded : Bool) (workers : List Worker) → ((i : ℕ) (d : Worker) → i < length workers → length (pass_in (get_or workers i d).pass) ≡ 1)
+    → ((i : ℕ) (d : Worker) → i < length workers → is_some (get_or workers i d).keeper ≡ guarded)
     → length (passes_in workers) ≡ length workers + (if guarded then length workers else 0)
-slots_count guarded [] all = search (arith, guarded)
-slots_count guarded (w ∷ ws) all =
-    let rest = slots_count guarded ws (λ i d lt. all (suc i) d (omega (arith, lt))) in
-    search (arith, rest, all 0 w (omega arith), w.keeper, guarded, true≢false)
+count_passes guarded [] back all = search (arith, guarded)
+count_passes guarded (w ∷ ws) back all =
+    let rest = count_passes guarded ws (λ i d lt. back (suc i) d (omega (arith, lt))) (λ i d lt. all (suc i) d (omega (arith, lt))) in
+    let both = length-append (own_passes w) (passes_in ws) in
+    let own = length-append (pass_in w.pass) (kept_pass w.keeper) in
+    search (arith, rest, both, own, back 0 w (omega arith), all 0 w (omega arith), w.keeper, guarded, true≢false)
 
 module _ {region : SharedRegion} {s : Session} {team : Team} {end : Progress} (stands : TeamAt region s [] team end) where
-  -- A team has a slot for the pass of each thread, each keeper and the scavenger.
-  pub all_slots : length (slots_of team) ≡ s.threads + s.keepers + 1
-  all_slots =
-      let guarded = stands.workers.guarded in omega (arith, slots_count guarded.0 team.threads.items guarded.2, guarded.1, stands.workers.many)
-
-  -- Each worker has its pass.
-  pub all_back : All IsBack team.threads.items
-  all_back i d lt = let has = (stands.workers.threads i d lt).here.has in (has.pass, has.present)
+  -- A team has a pass for each thread, each keeper and the scavenger.
+  pub all_passes : length (pass_in team.scavenger.pass) + length (passes_in team.threads.items) ≡ s.threads + s.keepers + 1
+  all_passes =
+      let guarded = stands.workers.guarded in
+      let first = ap (λ o. length (pass_in o)) stands.scavenger.has.present in
+      let own : (i : ℕ) (d : Worker) → i < length team.threads.items → length (pass_in (get_or team.threads.items i d).pass) ≡ 1 =
+      λ i d lt. ap (λ o. length (pass_in o)) (stands.workers.threads i d lt).here.has.present in
+      let others = count_passes guarded.0 team.threads.items own guarded.2 in
+      omega (arith, first, others, guarded.1, stands.workers.many)
 
   abbrev at : ActorsStand region s team.scavenger.pass team.threads.items end.list
   at = team_stands stands
 
-  -- Each actor has a pass of its own in its slot.
-  abbrev OwnPass : ℕ → Type 0
-  OwnPass k = (slot : Option SharedPass) × PassStands region k end.list slot × Contains (slots_of team) slot
+  behind : (i : ℕ) (d : Worker) (pass : SharedPass) → i < length team.threads.items → Contains (own_passes (get_or team.threads.items i d)) pass
+      → Contains (passes_with team) pass
+  behind i d pass lt has =
+      Contains-append_right (pass_in team.scavenger.pass) (passes_in team.threads.items) pass (worker_among team.threads.items i d pass lt has)
 
-  behind : (slot : Option SharedPass) → Contains (passes_in team.threads.items) slot → Contains (slots_of team) slot
-  behind slot = Contains-append_right (team.scavenger.pass ∷ []) (passes_in team.threads.items) slot
-
-  own_pass : (k : ℕ) → k ≤ s.threads + s.keepers → OwnPass k
-  own_pass = of_all at OwnPass (team.scavenger.pass, at.scavenger, (0, omega arith, refl))
-      (λ i d lt.
-      let slot = (get_or team.threads.items i d).pass in
-      (slot, at.threads i d lt, behind slot (worker_among team.threads.items i d slot lt (0, omega arith, refl))))
-      (λ i d keeper lt is.
-      let slot = Some keeper.pass in
-      (slot, at.keepers i d keeper lt is, behind slot (worker_among team.threads.items i d slot lt (rw is (1, omega arith, refl)))))
-
-  -- what is in a slot is of the region
-  abbrev OfRegion : Option SharedPass → Type 0
-  OfRegion slot = (pass : SharedPass) → slot ≡ Some pass → IsPassOf region pass
-
-  module _ (passes : List SharedPass) (back : slots_for passes ≡ slots_of team) where
-    -- The passes in the slots of a team at the end are all of its region.
+  module _ (passes : List SharedPass) (back : passes ≡ passes_with team) where
+    -- The passes of a team at the end are all of its region.
     pub all_of_region : All (IsPassOf region) passes
-    all_of_region n d lt =
-        let each = of_each OfRegion team.threads.items (λ i d lt own is. (stands_with own is (at.threads i d lt)).0)
-        (λ i d keeper lt is own its. (stands_with own its (at.keepers i d keeper lt is)).0) in
-        let all = All-cons OfRegion team.scavenger.pass (passes_in team.threads.items) (λ pass is. (stands_with pass is at.scavenger).0) each in
-        subst (All OfRegion) (sym back) all n (Some d) (omega (arith, lt, length-map passes (λ (pass : SharedPass). Some pass))) (get_or passes n d)
-        (get_or-map (λ (pass : SharedPass). Some pass) passes n d (Some d) lt)
+    all_of_region =
+        let Of = IsPassOf region in
+        let others = of_each Of team.threads.items (λ i d lt.
+        let w = get_or team.threads.items i d in
+        All-append Of (pass_in w.pass) (kept_pass w.keeper) (of_slot Of w.pass (λ pass is. (stands_with pass is (at.threads i d lt)).0))
+        (of_kept Of w.keeper (λ keeper is. (stands_with keeper.pass refl (at.keepers i d keeper lt is)).0))) in
+        let first = of_slot Of team.scavenger.pass (λ pass is. (stands_with pass is at.scavenger).0) in
+        subst (All Of) (sym back) (All-append Of (pass_in team.scavenger.pass) (passes_in team.threads.items) first others)
 
-    -- the list of the closed region has of each actor the same part as that of the pieces
-    same_parts : (whole : Whole) → s.profile.threads ≤ s.threads + s.keepers → Legal s.profile whole
-        → All (λ pass. part (seat_of pass).actor whole ≡ view_of pass) passes → (k : ℕ) → part k whole ≡ part k end.list
-    same_parts whole every legal parts k = elim (cases_lt (s.threads + s.keepers) k) [
-      | inl past ↦ nobody_past s.profile whole k (omega (arith, past, every)) legal ∙ sym (stands.nobody k past)
-      | inr within ↦
-          let own = own_pass k within in
-          let pass = own.1.pass in
-          let at = subst (λ slots. Contains slots (Some pass)) (sym back) (subst (Contains (slots_of team)) own.1.present own.2) in
-          let lt : at.0 < length passes = omega (arith, at.1, length-map passes (λ (pass : SharedPass). Some pass)) in
-          let here = same_Some (get_or passes at.0 pass) pass (sym (get_or-map (λ (pass : SharedPass). Some pass) passes at.0 pass (Some pass) lt) ∙ at.2) in
-          let its = subst (λ (x : SharedPass). part (seat_of x).actor whole ≡ view_of x) here (parts at.0 pass lt) in
-          ap (λ (n : ℕ). part n whole) (sym own.1.actor) ∙ its ∙ own.1.made
-    ]
+    module _ (whole : Whole) (parts : All (λ pass. part (seat_of pass).actor whole ≡ view_of pass) passes) where
+      -- an actor whose pass is among them has the same part in the list of the closed region as in that of the pieces
+      same_part : {k slot : _} (t : PassStands region k end.list slot) → Contains (passes_with team) t.pass → part k whole ≡ part k end.list
+      same_part t has =
+          let its = All-contains (λ pass. part (seat_of pass).actor whole ≡ view_of pass) passes t.pass parts (rw back has) in
+          ap (λ (n : ℕ). part n whole) (sym t.actor) ∙ its ∙ t.made
+
+      -- .. so has each actor
+      same_parts : s.profile.threads ≤ s.threads + s.keepers → Legal s.profile whole → (k : ℕ) → part k whole ≡ part k end.list
+      same_parts every legal k = elim (cases_lt (s.threads + s.keepers) k) [
+        | inl past ↦ nobody_past s.profile whole k (omega (arith, past, every)) legal ∙ sym (stands.nobody k past)
+        | inr within ↦ of_all at (λ n. part n whole ≡ part n end.list)
+            (let t = at.scavenger in same_part t
+            (Contains-append_left (pass_in team.scavenger.pass) (passes_in team.threads.items) t.pass (in_slot team.scavenger.pass t.pass t.present)))
+            (λ i d lt.
+            let t = at.threads i d lt in
+            let w = get_or team.threads.items i d in
+            same_part t (behind i d t.pass lt (Contains-append_left (pass_in w.pass) (kept_pass w.keeper) t.pass (in_slot w.pass t.pass t.present))))
+            (λ i d keeper lt is.
+            let t = at.keepers i d keeper lt is in
+            let w = get_or team.threads.items i d in
+            let has = in_kept w.keeper keeper t.pass is (same_Some keeper.pass t.pass t.present) in
+            same_part t (behind i d t.pass lt (Contains-append_right (pass_in w.pass) (kept_pass w.keeper) t.pass has))) k within
+      ]
 
   -- at the end all actors have nothing, where no cache has a local allocator and no guard is up
   module _ (empty : (i : ℕ) (d : Worker) → i < length team.threads.items → (cached (get_or team.threads.items i d).cache).locals ≡ [])
       (low : (i : ℕ) (d : Worker) → i < length team.threads.items → IsLow (get_or team.threads.items i d).keeper) where
     thread_bare : (i : ℕ) (d : Worker) → i < length team.threads.items → HasNothing (part (suc i) end.list)
-    thread_bare i d lt =
-        let rest = (stands.workers.threads i d lt).here.rests.sits.rest in
-        let none = no_slots (cached (get_or team.threads.items i d).cache).locals (empty i d lt) in
-        record { grains = λ g. rest.locals.grains g ∙ (none g).0; rights = λ page. rest.locals.rights page ∙ (none page).1; clear = rest.locals.clear }
+    thread_bare i d lt = search (arith, no_slots, empty i d lt, (stands.workers.threads i d lt).here.rests.sits.rest)
 
     keeper_bare : (i : ℕ) (d : Worker) (keeper : Keeper) → i < length team.threads.items → (get_or team.threads.items i d).keeper ≡ Some keeper
         → HasNothing (part (s.threads + suc i) end.list)
     keeper_bare i d keeper lt is =
-        let rests = stands.workers.kept i d lt in
-        let stood = stands_for {region = region} (get_or team.threads.items i d).keeper keeper is rests.of rests.waits in
-        let fits = stood.at.sits.rest in
-        let none = subst IsLow is (low i d lt) in
-        record { grains = λ g. fits.held g ∙ ap (λ (gs : List Guard). is_outer gs (g / 256)) none; rights = fits.rights; clear = fits.clear }
+        search (arith, stands_for)
 
     bare_at : (k : ℕ) → HasNothing (part k end.list)
     bare_at k = elim (cases_lt (s.threads + s.keepers) k) [
@@ -399,12 +360,12 @@ module _ {region : SharedRegion} {s : Session} {team : Team} {end : Progress} (s
 -- A whole replay on threads, whose region was closed by all its passes, is what the plan's replay shows.
 pub shows : {plan : Plan} {region : SharedRegion} {so_far : Whole} {team : Team} (passes : List SharedPass) {written : List Record} {state : State}
     → IsValid (region_of plan) → AreOfThreads (threads_of plan) (acts_of_plan plan) → region.profile ≡ region_of plan
-    → HasReplayed region (session_of plan) (phases_of plan) so_far team written → map (λ (pass : SharedPass). Some pass) passes ≡ slots_of team
+    → HasReplayed region (session_of plan) (phases_of plan) so_far team written → passes ≡ passes_with team
     → EndsAfter region.profile so_far passes state → Shows OnThreads plan written state
 shows {plan} {region} {so_far} {team} passes {written} {state} valid threads of_profile replayed back ends =
     let closed = subst (λ (f : Profile). EndsAfter f so_far passes state) of_profile ends in
     let after = closed.ends.after in
-    let same = same_parts replayed.stands passes back after.whole (omega (arith, plan_actors plan)) after.legal after.parts in
+    let same = same_parts replayed.stands passes back after.whole after.parts (omega (arith, plan_actors plan)) after.legal in
     let s = session_of plan in
     let of : IsOfActors s after.whole = λ k past. same k ∙ replayed.stands.nobody k past in
     let all : after.whole ≡ so_far = nothing_since closed.begins
@@ -418,9 +379,3 @@ shows {plan} {region} {so_far} {team} passes {written} {state} valid threads of_
       profile = closed.ends.profile;
       words = after.words;
     }
-
--- the plan as the replay was handed it
-pub replayed_so : (plan : Plan) {region so_far team written : _} (slice : List Phase) → slice ≡ the_phases plan.phases
-    → HasReplayed region (session_of plan) (map ops_of slice) so_far team written → HasReplayed region (session_of plan) (phases_of plan) so_far team written
-replayed_so plan {region} {so_far} {team} {written} slice is replayed =
-    subst (λ ps. HasReplayed region (session_of plan) (map ops_of ps) so_far team written) is replayed

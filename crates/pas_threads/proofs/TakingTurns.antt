@@ -1,25 +1,16 @@
 -- Workers in a row that take turns: threads read the epoch before a phase and are stopped at the close, one after the other; what they said is gathered, and
 -- what a ledger heard of each, and of the benches that the hands of a phase left.
-use Rattle.std.proofs.Common.{arith, ◌≡◌, ℕ, ◌<◌, List, [], ◌++◌, length, get_or, sym, ◌∙◌, subst, ◌≢◌, inl, inr, ◌∷◌, set, refl, ap, append_assoc, suc, ◌+◌}
-use Rattle.std.proofs.{Common.{◌-◌, ◌≤◌, true, false, map, length-append, append-nil, get_or-set_other, Option}, lemmas.List.{get_or_default, get_or_push}}
-use Rattle.std.{proofs.{lemmas.{Bool.{cases_eq, cases_lt}, Grind.get_or-set_at}, Math.ListN.get_or-append}, specs.List.filter}
-use Rattle.pas_answers.specs.{Names.names_held, Answers.Progress, Ways.{EachOf, records_by}, Calls.owed_events, Fit.own_cost_of_act}
-use Rattle.pas_answers.proofs.{OwnRecords.{records_both, none_by, all_by}, Reached.reach_both}
-use Rattle.pas_acts.specs.{declared.names.NameBook.NameBook, Keepers.StandsStill, Works.Later, NameBooks.{requests_in, room_for}, Awake.awake_in, AtDesks.here}
-use Rattle.pas_acts.{specs.AtDesks.ThreadActs, proofs.{AtDesk.{leaves_rest, rests_still}, ActsLeft.{acts_there, next_chosen, next_passed, none_left}}}
-use Rattle.pas_threads.specs.{Taken.{IsEmptied, HasTaken, HandsOver}, Hands.standing_of_pass, Left.HasLeft, Turns.{HasSaid, IsOwnGathered, IsKeptGathered}}
-use Rattle.pas_threads.specs.Turns.{AreDistinct, Came, Pushed, Told, TookNoPart, Turn, TookTurns, owed_at, IsDue, WokeAll, IsGathered, Woke}
-use Rattle.pas_threads.specs.{declared.{scavenger.Scavenger.Scavenger, workers.Worker.Worker, phases.Team.Team}, Sessions.{evenly, WorkerHas, WorkerRests}}
-use Rattle.pas_threads.specs.{Sessions.{AreResting, HasPlaces}, Settling.{HasHeard, HasBench, IsButBench, SawMore, with_bench}, Performing.{Round, ThreadDone}}
-use Rattle.pas_threads.specs.Performing.{ScavengerDone, HeardOrder, IsHeard, HaveActed}
-use Rattle.pas_profile.specs.declared.profile.Profile.{Profile}
-use Rattle.pas_steps.specs.{Lists.{Whole, part}, Desks.Standing}
-use Rattle.pas_trace.specs.Acts.{Act, Wakes, numbers_from, is_active}
-use Rattle.pas_shared.specs.declared.{region.SharedRegion.SharedRegion, pass.SharedPass.SharedPass, bench.Bench.Bench, ledger.Ledger.Ledger, rule.Entry.Entry}
-use Rattle.pas_shared.specs.{declared.rule.Row.Row, Ruled.{IsEarlier, AreEarlier, bases_in, first_look}}
-use Rattle.pas_bits.specs.{Masks.is_set, declared.mask.Mask4.Mask4}
-use Rattle.pas_cache.specs.Caches.{Cached, cached}
-use Rattle.pas_records.specs.{Rooms.{records_in, room_of, Records}, declared.record.Record.Record}
+use Rattle.std.proofs.Common.{arith, ◌≡◌, ℕ, ◌<◌, List, [], ◌++◌, length, get_or, sym, ◌∙◌, subst, ◌≢◌, ◌∷◌, set, refl, ap, append_assoc, suc, ◌+◌, ◌-◌, ◌≤◌}
+use Rattle.std.proofs.{Common.{true, false, map, length-append, append-nil, get_or-set_other, Option}, lemmas.Grind.get_or-set_at}
+use Rattle.pas_threads.proofs.Common.{get_or_default, get_or_push, cases_eq, cases_lt, get_or-append, names_held, Progress, EachOf, records_by, owed_events}
+use Rattle.pas_threads.proofs.Common.{records_both, none_by, all_by, reach_both, NameBook, StandsStill, Later, requests_in, room_for, here, ThreadActs}
+use Rattle.pas_threads.proofs.Common.{leaves_rest, rests_still, HasTaken, standing_of_pass, HasLeft, HasSaid, AreDistinct, Came, Pushed, Told, TookNoPart, Turn}
+use Rattle.pas_threads.proofs.Common.{TookTurns, owed_at, IsDue, WokeAll, Scavenger, Worker, Team, evenly, WorkerHas, WorkerRests, AreResting, HasPlaces}
+use Rattle.pas_threads.proofs.Common.{HasHeard, HasBench, Round, ThreadDone, ScavengerDone, HeardOrder, IsHeard, Profile, Whole, part, Standing, Act, Wakes}
+use Rattle.pas_threads.proofs.Common.{is_active, SharedRegion, SharedPass, Bench, Ledger, Entry, Row, AreEarlier, bases_in, is_set, Mask4, Cached, cached}
+use Rattle.pas_threads.{proofs.Common.{records_in, room_of, Records, Record}, specs.{Settling.{IsButBench, SawMore, with_bench}, Taken.IsEmptied}}
+use Rattle.pas_threads.specs.{Turns.{IsOwnGathered, IsKeptGathered, IsGathered, Woke}, Performing.HaveActed}
+use Rattle.pas_acts.{specs.Awake.awake_in, proofs.ActsLeft.{acts_there, next_chosen, next_passed, none_left}}
 
 -- the book took over what these workers asked for
 pub record WereTaken (old new : List Worker) (book book' : NameBook) : Type 0 where
@@ -46,24 +37,6 @@ cleared {new = new} g e = search arith
 -- So is one that was gathered and asked for nothing.
 pub cleared_silent : {old new : Worker} → IsGathered old new → requests_in old.requests ≡ [] → IsCleared old new
 cleared_silent g none = assumption (ap requests_in g.requests ∙ none, ap room_for g.requests)
-
--- what the scavenger said was gathered, and it is otherwise as it was, with no thread lent to it
-pub record IsScavengerCleared (old new : Scavenger) : Type 0 where
-  pub pass : new.pass ≡ old.pass
-  pub outcomes : new.outcomes ≡ old.outcomes
-  pub none : new.lent.items ≡ []
-  pub empty : records_in new.out ≡ []
-  pub size : room_of new.out ≡ room_of old.out
-
--- .. and so of those that they are then
-pub taken_as : {old new now : List Worker} {book book' : NameBook} → now ≡ new → WereTaken old new book book' → WereTaken old now book book'
-taken_as {old} {book = book} {book'} is t = subst (λ (ws : List Worker). WereTaken old ws book book') (sym is) t
-
--- What was taken over from these workers was taken over from those that they are.
-pub were_taken : {given old new book book' : _} → given ≡ old → HasTaken book book' given → names_held book'.names ≡ names_held book.names
-    → ((i : ℕ) (d : Worker) → i < length given → IsEmptied (get_or given i d) (get_or new i d)) → length new ≡ length given → WereTaken old new book book'
-were_taken {new = new} {book} {book'} value taken held each many =
-    subst (λ (ws : List Worker). WereTaken ws new book book') value (record { taken = taken; held = held; each = each; many = many })
 
 -- ---- acts one after the other
 abbrev pub came_none : (f : Profile) (p : Progress) → Came f [] p
@@ -135,14 +108,7 @@ set_each {A} Is now i w e j lt this others = search (arith, cases_eq, get_or-set
 -- .. or one more comes behind it
 pub each_pushed : {A : Type 0} (Is : ℕ → A → Type 0) (old : List A) {new : List A} (w : A) → new ≡ old ++ w ∷ [] → Is (length old) w
     → ((i : ℕ) (d : A) → i < length old → Is i (get_or old i d)) → (i : ℕ) (d : A) → i < length new → Is i (get_or new i d)
-each_pushed {A} Is old w is this all i d lt =
-    let at = ap (λ (xs : List A). get_or xs i d) is in
-    elim (cases_lt i (length old)) [
-      | inl less ↦ subst (Is i) (sym (at ∙ get_or-append old (w ∷ []) d i less)) (all i d less)
-      | inr past ↦
-          let here : length old ≡ i = omega (arith, past, lt, ap length is ∙ length-append old (w ∷ [])) in
-          subst (Is i) (sym (at ∙ get_or_push old w d i here)) (subst (λ (m : ℕ). Is m w) here this)
-    ]
+each_pushed {A} Is old w is this all i d lt = search (arith, cases_lt, get_or-append, get_or_push, length-append)
 
 -- ---- a turn
 -- who stands does so at each progress at which it has the same in hand
@@ -152,14 +118,6 @@ Stays number Stands = (i : ℕ) (w : Worker) (q r : Progress) → part (number i
 abbrev pub no_turn : {f : Profile} {number : ℕ → ℕ} {Stands : ℕ → Worker → Progress → Type 0} {old : List Worker} {p : Progress}
     → ((i : ℕ) (d : Worker) → i < length old → Stands i (get_or old i d) p) → TookTurns f number Stands [] old old p
 no_turn {f} {number} {Stands} {old} {p} at = record { came = came_none f p; stand = at; told = λ i d lt. told_none refl; leaves = record { parts = λ k other. refl; silent = λ k some other. refl; names = refl; books = refl; epoch = refl } }
-
--- those of thread k and then of the scavenger, by actor
-pub by_own : (k : ℕ) (mine told : List Record) → EachOf k mine → EachOf 0 told → 0 ≢ k → records_by k (mine ++ told) ≡ mine
-by_own k mine told one two ne = cc (records_both k mine told, all_by k mine one, none_by k 0 told two ne, append-nil mine)
-
--- What one thread and the scavenger say has nothing of another actor.
-pub by_other : (j k : ℕ) (mine told : List Record) → EachOf k mine → EachOf 0 told → k ≢ j → 0 ≢ j → records_by j (mine ++ told) ≡ []
-by_other j k mine told one two ne zero = records_both j mine told ∙ ap (λ xs. xs ++ records_by j told) (none_by j k mine one ne) ∙ none_by j 0 told two zero
 
 -- the worker at this place acted, and the others stand as they did
 abbrev pub acts_in_turn : {f : Profile} {number : ℕ → ℕ} {Stands : ℕ → Worker → Progress → Type 0} {acts : List Act} {act : Act} {told : List Record}
@@ -175,9 +133,12 @@ acts_in_turn {f} {number} {Stands} {act = act} {told} {old} {now} stays apart th
     let one : Came f (act ∷ []) so.came.reached = record { reached = x.reached; reaches = x.reaches; said = x.own ++ told; records_are = x.records_are } in
     let leaves = leaves_rest x in
     let place : i < length now = omega (arith, lt, many) in
-    let others : (j : ℕ) → 0 ≢ j → k ≢ j → records_by j (x.own ++ told) ≡ [] = λ j some ne. by_other j k x.own told x.each theirs ne some in
+    let both = λ (j : ℕ). records_both j x.own told in
+    let others : (j : ℕ) → 0 ≢ j → k ≢ j → records_by j (x.own ++ told) ≡ [] =
+    λ j some ne. cc (both j, none_by j k x.own x.each ne, none_by j 0 told theirs some) in
+    let own : records_by k (x.own ++ told) ≡ x.own = cc (both k, all_by k x.own x.each, none_by k 0 told theirs (apart.threads i lt), append-nil x.own) in
     let mine : Told k (x.own ++ told) (get_or now i d) w = record {
-      out = record { added = x.pushed ∙ ap (λ rs. records_in (get_or now i d).out ++ rs) (sym (by_own k x.own told x.each theirs (apart.threads i lt))); room = x.room };
+      out = record { added = x.pushed ∙ ap (λ rs. records_in (get_or now i d).out ++ rs) (sym own); room = x.room };
       requests = requests;
       keeper = keeper;
     } in
@@ -202,10 +163,20 @@ acts_in_turn {f} {number} {Stands} {act = act} {told} {old} {now} stays apart th
 pub pass_still : (pass : SharedPass) {l m : Whole} → StandsStill (standing_of_pass pass) (standing_of_pass pass) l m
 pass_still pass = record { seat_is = refl; stands = λ stood same. stood ∙ sym same }
 
+-- so does its worker
+pub has_still : {region f k worker later : _} {p q : Progress} → part k q.list ≡ part k p.list → q.caches k ≡ p.caches k → WorkerHas region f k worker later p
+    → WorkerHas region f k worker later q
+has_still parts caches at = record { has = at.has; rests = rests_still (pass_still at.has.pass) parts caches at.rests }
+
+-- What it owes is what its cache and its part of the list say.
+pub owed_now : {region f k worker later : _} {q : Progress} → WorkerHas region f k worker later q
+    → owed_at f k q ≡ owed_events f (cached worker.cache) (part k q.list)
+owed_now {f = f} {k} {q = q} at = ap (λ (c : Cached). owed_events f c (part k q.list)) at.rests.cache
+
 -- it rests at each progress at which it has the same in hand, and owes the same
 pub same_rests : {region : SharedRegion} {f : Profile} {k later : ℕ} {worker : Worker} {p q : Progress} → part k q.list ≡ part k p.list
     → q.caches k ≡ p.caches k → WorkerRests region f k worker later p → WorkerRests region f k worker later q
-same_rests parts caches at = record { here = record { has = at.here.has; rests = rests_still (pass_still at.here.has.pass) parts caches at.here.rests }; said = at.said; asked = at.asked; requests = at.requests }
+same_rests parts caches at = record { here = has_still parts caches at.here; said = at.said; asked = at.asked; requests = at.requests }
 
 -- what it said is gathered, and its requests were taken over: it rests with room for less, where that and what it owes fit
 pub rests_clear : {region : SharedRegion} {f : Profile} {k n : ℕ} {later : Later} {w new : Worker} {p : Progress} → WorkerHas region f k w later p
@@ -229,36 +200,9 @@ pub same_owed : (f : Profile) (p q : Progress) (k : ℕ) → part k q.list ≡ p
 same_owed f p q k parts caches = ap (owed_events f (q.caches k)) parts ∙ ap (λ (c : Cached). owed_events f c (part k p.list)) caches
 
 -- A thread's worker that takes no part in what others do is due as it was.
-pub due_stays : {region : SharedRegion} {f : Profile} {later : ℕ → ℕ} {p : Progress} → Stays suc (IsDue region f later p)
+due_stays : {region : SharedRegion} {f : Profile} {later : ℕ → ℕ} {p : Progress} → Stays suc (IsDue region f later p)
 due_stays {region} {f} {later} {p} i w q r parts caches names at =
-    let same = same_owed f q r (suc i) parts caches in
-    let paid = at.paid in
-    record { here = record { has = at.here.has; rests = rests_still (pass_still at.here.has.pass) parts caches at.here.rests }; paid = omega (arith, same, paid) }
-
--- The threads at the places of a row are distinct.
-pub threads_distinct : (places : ℕ) → AreDistinct suc places
-threads_distinct places = record { threads = λ i lt same. omega (arith, same); apart = λ i j low high ne same. ne (omega (arith, same)) }
-
--- before the first turn
-none_took : {region : SharedRegion} {f : Profile} (old : List Worker) {later : ℕ → ℕ} {p : Progress} → AreResting region f old later p
-    → (i : ℕ) (d : Worker) → i < length old → IsDue region f later p i (get_or old i d) p
-none_took old at i d lt = let none = ap length (at i d lt).said in record { here = (at i d lt).here; paid = omega (arith, none) }
-
--- the next worker takes its turn, by an act that costs it nothing
-abbrev turn_taken : {region f acts act old now later p : _} (i : ℕ) (d w : Worker) → own_cost_of_act (suc i) act ≡ 0 → i < length old → length now ≡ length old
-    → (so : TookTurns f suc (IsDue region f later p) acts old now p) → Turn region f (suc i) act [] (get_or now i d) w (evenly (later (suc i))) so.came.reached
-    → TookTurns f suc (IsDue region f later p) (acts ++ (act ∷ [])) old (set now i w) p
-turn_taken {f = f} {old = old} {now} i d w free lt many so t =
-    let k = suc i in
-    let x = t.did.does in
-    let was = so.stand i d lt in
-    let longer = ap length x.pushed ∙ length-append (records_in (get_or now i d).out) x.own in
-    let then : owed_at f k x.reached ≡ owed_events f (cached w.cache) (part k x.reached.list) = ap
-    (λ c. owed_events f c (part k x.reached.list)) x.stands.cache in
-    let before : owed_at f k so.came.reached ≡ owed_events f (cached (get_or now i d).cache) (part k so.came.reached.list) = ap
-    (λ c. owed_events f c (part k so.came.reached.list)) was.here.rests.cache in
-    acts_in_turn due_stays (threads_distinct (length old)) tt i d w lt many so x t.requests t.keeper
-    (record { here = record { has = t.did.after; rests = x.stands }; paid = omega (arith, longer, then, before, x.paid, was.paid, free) })
+    record { here = has_still parts caches at.here; paid = omega (arith, same_owed f q r (suc i) parts caches, at.paid) }
 
 -- ---- before a phase
 -- those of the mask before this place read the epoch
@@ -268,13 +212,8 @@ WokeSoFar region f awake i old now later p =
 
 -- Before any thread reads the epoch, none has.
 pub wakes_begin : (awake : Mask4) {region f old later p : _} → AreResting region f old later p → WokeSoFar region f awake 0 old old later p
-wakes_begin awake {old = old} at = at_first (record { turns = no_turn (none_took old at); silent = refl })
-
--- One more worker woke.
-wakes : {region f acts old now later p : _} (i : ℕ) (d w : Worker) (so : Woke region f acts old now later p) → i < length old → length now ≡ length old
-    → (t : Turn region f (suc i) (Wakes (suc i)) [] (get_or now i d) w (evenly (later (suc i))) so.turns.came.reached) → t.did.does.own ≡ []
-    → Woke region f (acts ++ (Wakes (suc i) ∷ [])) old (set now i w) later p
-wakes i d w so lt many t none = record { turns = turn_taken i d w refl lt many so.turns t; silent = ap (λ rs. so.turns.came.said ++ (rs ++ [])) none ∙ append-nil so.turns.came.said ∙ so.silent }
+wakes_begin awake at =
+    at_first (record { turns = no_turn (λ i d lt. record { here = (at i d lt).here; paid = omega (arith, ap length (at i d lt).said) }); silent = refl })
 
 -- After one more thread of the mask read the epoch, one more did.
 pub wakes_go_on : (awake : Mask4) {region : SharedRegion} {f : Profile} {old now : List Worker} {later : ℕ → ℕ} {p : Progress} (i : ℕ) (d w : Worker)
@@ -282,8 +221,19 @@ pub wakes_go_on : (awake : Mask4) {region : SharedRegion} {f : Profile} {old now
     → (t : Turn region f (suc i) (Wakes (suc i)) [] (get_or now i d) w (evenly (later (suc i))) so.done.turns.came.reached) → t.did.does.own ≡ []
     → WokeSoFar region f awake (i + 1) old (set now i w) later p
 wakes_go_on awake {region} {f} {old} {now} {later} {p} i d w on so lt many t none =
+    let k = suc i in
+    let turns = so.done.turns in
+    let x = t.did.does in
+    let was = turns.stand i d lt in
+    let longer = ap length x.pushed ∙ length-append (records_in (get_or now i d).out) x.own in
+    let here : WorkerHas region f k w (evenly (later k)) x.reached = record { has = t.did.after; rests = x.stands } in
+    let woke : Woke region f (so.acts ++ (Wakes k ∷ [])) old (set now i w) later p = record {
+      turns = acts_in_turn due_stays (search arith) tt i d w lt many turns x t.requests t.keeper
+          (record { here = here; paid = omega (arith, longer, owed_now here, owed_now was.here, x.paid, was.paid) });
+      silent = ap (λ rs. turns.came.said ++ (rs ++ [])) none ∙ append-nil turns.came.said ∙ so.done.silent;
+    } in
     goes_on (Wakes (i + 1) ∷ []) (next_chosen Wakes (is_set awake) i (length old) [] lt on) so
-    (subst (λ m. Woke region f (so.acts ++ (Wakes m ∷ [])) old (set now i w) later p) (let is : suc i ≡ i + 1 = omega arith in is) (wakes i d w so.done lt many t none))
+    (subst (λ m. Woke region f (so.acts ++ (Wakes m ∷ [])) old (set now i w) later p) (let is : k ≡ i + 1 = omega arith in is) woke)
 
 -- A thread that isn't in the mask is passed over.
 pub wakes_pass : (awake : Mask4) {region : SharedRegion} {f : Profile} {old now : List Worker} {later : ℕ → ℕ} {p : Progress} (i : ℕ)
@@ -295,26 +245,16 @@ pub wakes_end : (awake : Mask4) {region : SharedRegion} {f : Profile} {old now :
     → WokeSoFar region f awake i old now later p → WokeAll region f awake old now later p
 wakes_end awake {region} {f} {old} {now} {later} {p} i le so =
     let n = length old in
-    let all : acts_there Wakes (is_set awake) 0 n [] ≡ map Wakes (awake_in awake n) =
-    append-nil (map Wakes (filter (is_set awake) (numbers_from 1 (n - 0))))
-    ∙ ap (λ m. map Wakes (filter (is_set awake) (numbers_from 1 m))) (let whole : n - 0 ≡ n = omega arith in whole)
-    in
+    let whole : n - 0 ≡ n = omega arith in
+    let all : acts_there Wakes (is_set awake) 0 n [] ≡ map Wakes (awake_in awake n) = rw (whole, append-nil) in
     subst (λ (acts : List Act). Woke region f acts old now later p) all (at_last (none_left Wakes (is_set awake) i n [] le) so)
 
 -- they rest again
 pub woke_rest : {region : SharedRegion} {f : Profile} {acts : List Act} {old now : List Worker} {later : ℕ → ℕ} {p : Progress} → length now ≡ length old
     → AreResting region f old later p → (woke : Woke region f acts old now later p) → AreResting region f now later woke.turns.came.reached
-woke_rest {old = old} {now} many at woke i d lt =
+woke_rest {region} {f} {acts} {old} {now} {later} {p} many at woke i d lt =
     let less : i < length old = omega (arith, lt, many) in
-    let was = at i d less in
-    let told = woke.turns.told i d less in
-    record {
-      here = (woke.turns.stand i d less).here;
-      said = told.out.added ∙ ap (λ rs. records_in (get_or old i d).out ++ records_by (suc i) rs) woke.silent ∙ append-nil (records_in (get_or old i d).out)
-          ∙ was.said;
-      asked = ap requests_in told.requests ∙ was.asked;
-      requests = omega (arith, was.requests, ap room_for told.requests);
-    }
+    search (arith, at i d less, woke.turns.told i d less, woke.turns.stand i d less, woke.silent)
 
 -- ---- what is gathered
 -- a worker that was gathered for its thread and then for its keeper
@@ -326,11 +266,6 @@ gathered {new = new} g h = search arith
 pub looks_apart : (es ds : List (List Entry)) (l : Whole) → AreEarlier (es ++ ds) l → AreEarlier es l × AreEarlier ds l
 looks_apart [] ds l all = (tt, all)
 looks_apart (e ∷ es) ds l all = let rest = looks_apart es ds l all.1 in ((all.0, rest.0), rest.1)
-
--- so what stands in a ledger are the first steps of such a list
-pub first_of : (looks : List (List Entry)) (l : Whole) → AreEarlier looks l → IsEarlier (first_look looks) l
-first_of [] l all = (l, sym (append-nil l))
-first_of (e ∷ looks) l all = all.0
 
 -- ---- the ledger heard of the benches that the hands of a phase left
 -- A bench was left in its slot, of the same region.
@@ -352,18 +287,8 @@ heard_still old new saw heard bench is l begins = heard bench is l (saw l begins
 -- nothing that a thread did is about its bench
 thread_but : {region r k old new new' said q : _} → IsButBench new new' → ThreadDone region r k old new said q → ThreadDone region r k old new' said q
 thread_but {region} {r} {k} {old} {new} {new'} {said} {q} same done =
-    subst (λ (w : Worker). ThreadDone region r k old w said q) (sym same) (record {
-      stands = record { has = done.stands.has; rests = done.stands.rests };
-      of = done.of;
-      waits = done.waits;
-      told = done.told;
-      kept_told = done.kept_told;
-      still = done.still;
-      paid = done.paid;
-      noted = done.noted;
-      room_noted = done.room_noted;
-      hands_over = done.hands_over;
-    })
+    let stands : WorkerHas region r.profile k (with_bench new new'.bench) (r.later k) q = record { has = done.stands.has; rests = done.stands.rests } in
+    subst (λ (w : Worker). ThreadDone region r k old w said q) (sym same) assumption
 
 -- the scavenger with this in place of its bench
 abbrev pub scavenger_with : Scavenger → Option Bench → Scavenger

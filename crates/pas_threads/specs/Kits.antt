@@ -113,20 +113,25 @@ pub record IsKitOf (plan : Plan) (kit : SharedKit) : Type 0 where
   pub place : (region_of plan).threads < vec_capacity kit.passes
 
 -- ---- at the end
--- the pass of a worker's keeper, if it has one
-abbrev pub kept_pass : Option Keeper → List (Option SharedPass)
-kept_pass None = []
-kept_pass (Some keeper) = Some keeper.pass ∷ []
+-- the pass in this slot, if there is one
+abbrev pub pass_in : Option SharedPass → List SharedPass
+pass_in None = []
+pass_in (Some pass) = pass ∷ []
 
--- the places of the passes of these workers: that of each thread, and that of its keeper behind it
-abbrev pub passes_in : List Worker → List (Option SharedPass)
+-- that of a worker's keeper, if it has one
+abbrev pub kept_pass : Option Keeper → List SharedPass
+kept_pass None = []
+kept_pass (Some keeper) = keeper.pass ∷ []
+
+-- those of a worker: that of its thread, and that of its keeper behind it
+abbrev pub own_passes : Worker → List SharedPass
+own_passes worker = pass_in worker.pass ++ kept_pass worker.keeper
+
+-- .. of all these workers
+abbrev pub passes_in : List Worker → List SharedPass
 passes_in [] = []
-passes_in (w ∷ ws) = w.pass ∷ (kept_pass w.keeper ++ passes_in ws)
+passes_in (w ∷ ws) = own_passes w ++ passes_in ws
 
 -- .. and of all actors, from the scavenger on
-abbrev pub slots_of : Team → List (Option SharedPass)
-slots_of team = team.scavenger.pass ∷ passes_in team.threads.items
-
--- the worker has its pass
-abbrev pub IsBack : Worker → Type 0
-IsBack worker = (pass : SharedPass) × (worker.pass ≡ Some pass)
+abbrev pub passes_with : Team → List SharedPass
+passes_with team = pass_in team.scavenger.pass ++ passes_in team.threads.items

@@ -20,6 +20,10 @@ pub record Session : Type 0 where
   pub threads : ℕ
   pub keepers : ℕ
 
+-- how many actors its region has: its threads, its keepers, and what places the region has besides
+abbrev pub actors : Session → ℕ
+actors s = s.profile.threads
+
 -- .. with just its threads, by which the operations of a plan are counted
 abbrev pub planned : Session → Profile
 planned s = record s.profile { threads = s.threads }
@@ -53,16 +57,14 @@ pub record ScavengerRests (region : SharedRegion) (f : Profile) (scavenger : Sca
   pub none : scavenger.lent.items ≡ []
 
 -- ---- the team
--- there is a place for each of so many threads wherever a worker may stand
-pub record HasPlaces (threads : ℕ) (team : Team) : Type 0 where
-  pub workers : threads ≤ vec_capacity team.threads
-  pub hands : threads < vec_capacity team.hands
-  pub lent : threads ≤ vec_capacity team.scavenger.lent
-  pub free : team.hands.items ≡ []
+-- There is a place for each of so many threads wherever a worker may stand: among the threads, the hands, which are none, and those that are lent.
+abbrev pub HasPlaces : ℕ → Team → Type 0
+HasPlaces threads team =
+    (threads ≤ vec_capacity team.threads) × (threads < vec_capacity team.hands) × (threads ≤ vec_capacity team.scavenger.lent) × (team.hands.items ≡ [])
 
 -- These phases can be replayed: there are as many actors as the region takes, and few operations, each of a thread with its keeper behind it.
 pub record ArePhases (s : Session) (phases : List (List Op)) : Type 0 where
-  pub fits : s.threads + s.keepers ≤ s.profile.threads
+  pub fits : s.threads + s.keepers ≤ actors s
   pub few_threads : s.threads ≤ 16
   pub few : length (all_ops phases) < 2 ^ 32
   pub within : (k : ℕ) → is_active (all_ops phases) k ≡ true → k ≤ s.threads
@@ -89,7 +91,7 @@ pub record TeamAt (region : SharedRegion) (s : Session) (phases : List (List Op)
 -- ---- the records
 -- The records end with a mark, or there are none yet, and they are written so: what comes after them is arranged by itself.
 abbrev pub AreMarked : Session → List Record → List Record → Type 0
-AreMarked s records written = (more : List Record) → arranged OnThreads s.profile.threads (records ++ more) ≡ written ++ arranged OnThreads s.profile.threads more
+AreMarked s records written = (more : List Record) → arranged OnThreads (actors s) (records ++ more) ≡ written ++ arranged OnThreads (actors s) more
 
 -- The records of a phase follow such records, and are written actor by actor.
 pub record AreWritten (s : Session) (records written : List Record) : Type 0 where
@@ -99,7 +101,7 @@ pub record AreWritten (s : Session) (records written : List Record) : Type 0 whe
   pub marked : AreMarked s before before_written
   pub spoken : AreSpoken said
   pub records_are : records ≡ before ++ said
-  pub written_are : written ≡ before_written ++ by_actors 0 (s.profile.threads + 1) said
+  pub written_are : written ≡ before_written ++ by_actors 0 (actors s + 1) said
 
 -- the events that the first n threads owe, and their keepers, which these workers have
 abbrev pub owed_by : Session → List Worker → Progress → ℕ → ℕ
@@ -172,6 +174,6 @@ pub record HasReplayed (region : SharedRegion) (s : Session) (phases : List (Lis
   pub went : WentBy s (stages_of s.threads s.keepers phases) at_start end [] so_far
   pub in_phases : (whole : Whole) → IsEarlier so_far whole → IsOfActors s whole
       → AreInPhases s.profile (acts_of s.threads s.keepers phases) at_start end answers whole
-  pub written_are : written ≡ arranged OnThreads s.profile.threads end.records
+  pub written_are : written ≡ arranged OnThreads (actors s) end.records
   pub empty : (i : ℕ) (d : Worker) → i < length team.threads.items → (cached (get_or team.threads.items i d).cache).locals ≡ []
   pub low : (i : ℕ) (d : Worker) → i < length team.threads.items → IsLow (get_or team.threads.items i d).keeper

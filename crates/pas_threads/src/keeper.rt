@@ -1,13 +1,9 @@
 //! The keeper of a thread at the shared region, in a guarded replay.
-ghost use Rattle.std.specs.Prelude.{◌≡◌, ◌++◌, ℕ, Option, Some};
-ghost use Rattle.pas_profile.specs.declared.profile.Profile.{Profile as TheProfile};
-ghost use Rattle.pas_answers.specs.Answers.{Progress};
-ghost use Rattle.pas_acts.specs.Keepers.{LaterKept};
+ghost use Rattle.std.specs.Prelude.{◌≡◌, ◌++◌};
 ghost use Rattle.pas_shared.specs.{Ruled.rows_of, Benches.{rows_on, first_row, IsBenchOf, IsFreshRow}};
-ghost use Rattle.pas_threads.specs.{Pairs.{IsKeeperOf, KeeperStands, KeeperLowered}, Seats.{keeper_parts, rows_without_keeper, IsSameKeeper, KeeperMayLeave}};
-ghost use Rattle.pas_threads.specs.Seats.{HasRisen};
+ghost use Rattle.pas_threads.specs.{Pairs.IsKeeperOf, Seats.{keeper_parts, rows_without_keeper, IsSameKeeper, KeeperMayLeave, HasRisen}};
 
-use pas_acts::keepers::{Tries, lower_all, try_guarded};
+use pas_acts::keepers::{Tries, try_guarded};
 use pas_guard::GuardBook;
 use pas_profile::Block;
 use pas_records::Records;
@@ -115,23 +111,4 @@ impl<'a> Tries<BenchDesk<'a>> for Beside {
     }
 
     ghost still = { λ keeper old new l m home stood stands. beside_still keeper old new l m home stood stands };
-}
-
-/// The keeper sits down, lowers all its guards, and rises.
-pub(crate) fn lower(region: &SharedRegion, keeper: Keeper) -> Keeper
-    requires stands { (f : TheProfile) × (actor : ℕ) × (later : LaterKept) × (p : Progress) × KeeperStands region.now f actor keeper later p }
-    ensures lowered { (f : TheProfile) (actor : ℕ) (later : LaterKept) (p : Progress) → KeeperStands region.now f actor keeper later p → KeeperLowered region.now f actor keeper result later p }
-{
-    let Keeper {
-        pass,
-        mut book,
-        mut out,
-    } = keeper;
-    let mut desk = region.desk(pass);
-    lower_all(&mut desk, &mut book, &mut out);
-    Keeper {
-        pass: desk.into_pass(),
-        book,
-        out,
-    }
 }

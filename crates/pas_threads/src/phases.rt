@@ -139,14 +139,16 @@ fn perform_phase<R: Threads + Wait + Sync, G: Gate + Sync, M: Remake + Sync>(
 {
     let awake = active(ops);
     let mut team = team;
-    wake_all(region, &mut team.threads, awake);
-    settle(region, ledger, &mut team.scavenger, &mut team.threads);
+    let threads = team.threads.as_mut_slice();
+    wake_all(region, threads, awake);
+    settle(region, ledger, &mut team.scavenger, threads);
     team.book.note(ops);
     let mut team = perform_and_hear(rt, region, ledger, indexes, team, awake, ops, gate, remaker);
     out.append(&mut team.scavenger.out);
-    gather(&mut team.threads, out);
-    take_all(&mut team.book, &mut team.threads);
-    settle(region, ledger, &mut team.scavenger, &mut team.threads);
+    let workers = team.threads.as_mut_slice();
+    gather(workers, out);
+    take_all(&mut team.book, workers);
+    settle(region, ledger, &mut team.scavenger, workers);
     team
 }
 
@@ -159,8 +161,9 @@ fn finish(region: &SharedRegion, ledger: &mut Ledger, team: Team, out: &mut Reco
         → CloseDone region.now s result (records_in out.new) (so_far ledger.old) (so_far ledger.new) p }
 {
     let mut team = team;
-    close_all(region, ledger, &mut team.scavenger, &mut team.threads);
-    gather(&mut team.threads, out);
+    let threads = team.threads.as_mut_slice();
+    close_all(region, ledger, &mut team.scavenger, threads);
+    gather(threads, out);
     team
 }
 

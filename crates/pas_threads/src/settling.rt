@@ -101,21 +101,7 @@ pub(crate) fn settle(
     scavenger.pass = Some(pass);
 }
 
-/// The ledger takes over what the bench in this place saw, which its worker left. One load.
-pub(crate) fn hear(region: &SharedRegion, ledger: &mut Ledger, left: &mut Option<Bench>)
-    requires of { IsLedgerOf region.now ledger.old }
-    requires bench { HasBench region.now left.old }
-    ensures of { IsLedgerOf region.now ledger.new }
-    ensures saw { SawMore ledger.old ledger.new }
-    ensures heard { HasHeard ledger.new left.old }
-{
-    let Some(bench) = left.take() else {
-        unreachable!();
-    };
-    ledger.hear(region, bench);
-}
-
-/// .. if there is one.
+/// The ledger takes over what the bench in this place saw, which its worker left, if it had something to do. One load.
 pub(crate) fn hear_if(
     region: &SharedRegion,
     ledger: &mut Ledger,
@@ -128,9 +114,13 @@ pub(crate) fn hear_if(
     ensures saw { SawMore ledger.old ledger.new }
     ensures heard { busy ≡ true → HasHeard ledger.new left.old }
 {
-    if busy {
-        hear(region, ledger, left);
+    if !busy {
+        return;
     }
+    let Some(bench) = left.take() else {
+        unreachable!();
+    };
+    ledger.hear(region, bench);
 }
 
 /// .. what the benches saw of those of these workers that are of the mask, where so many threads are before them. One load for each.

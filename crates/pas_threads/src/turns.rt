@@ -13,10 +13,11 @@ ghost use Rattle.pas_threads.specs.{Pairs.{no_more, AreGuarded, IsButKeeper, Kee
 ghost use Rattle.pas_threads.specs.{Turns.{said_by_keepers, IsOwnGathered, IsKeptGathered, WereGathered}, declared.keeper.Keeper.Keeper as TheKeeper};
 ghost use Rattle.pas_threads.specs.declared.workers.Worker.{Worker as TheWorker};
 
-use crate::keeper::lower;
+use crate::keeper::Keeper;
 use crate::scavenger::Scavenger;
 use crate::settling::settle;
 use crate::workers::Worker;
+use pas_acts::keepers::lower_all;
 use pas_acts::turns::{begin, end};
 use pas_bits::Mask4;
 use pas_records::Records;
@@ -64,7 +65,7 @@ fn stop(region: &SharedRegion, worker: &mut Worker)
     worker.pass = Some(desk.into_pass());
 }
 
-/// The keeper of the worker, which has one, lowers all its guards.
+/// The keeper of the worker, which has one, sits down, lowers all its guards, and rises.
 fn lower_one(region: &SharedRegion, worker: &mut Worker)
     requires stands { (f : TheProfile) × (actor : ℕ) × (p : Progress) × (keeper : TheKeeper) × (worker.old.keeper ≡ Some keeper) × KeeperStands region.now f actor keeper no_more p }
     ensures but { IsButKeeper worker.old worker.new }
@@ -74,7 +75,15 @@ fn lower_one(region: &SharedRegion, worker: &mut Worker)
     let Some(keeper) = worker.keeper.take() else {
         unreachable!();
     };
-    worker.keeper = Some(lower(region, keeper));
+    let Keeper {
+        pass,
+        mut book,
+        mut out,
+    } = keeper;
+    let mut desk = region.desk(pass);
+    lower_all(&mut desk, &mut book, &mut out);
+    let pass = desk.into_pass();
+    worker.keeper = Some(Keeper { pass, book, out });
 }
 
 /// How many actors have an act at the close: all threads, and as many keepers, where they have some.

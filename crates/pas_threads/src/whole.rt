@@ -1,11 +1,12 @@
 //! The replay of a whole plan on threads, with the kit that was made for it.
-ghost use Rattle.std.specs.Prelude.{◌≡◌, ◌≤◌, ◌<◌, ◌+◌, ℕ, List, Some, All, [], map, length, vec_capacity, ◌++◌, ◌∷◌};
+ghost use Rattle.std.specs.Prelude.{◌≡◌, ◌≤◌, ◌<◌, ◌+◌, ℕ, List, [], length, vec_capacity, ◌++◌};
 ghost use Rattle.pas_trace.specs.Plans.{IsPlanOf};
 ghost use Rattle.pas_answers.specs.{Replays.{phases_of, Shows}, Ways.OnThreads, Answers.Progress};
-ghost use Rattle.pas_shared.specs.declared.{pass.SharedPass.SharedPass as ThePass, region.SharedRegion.SharedRegion as TheRegion};
-ghost use Rattle.pas_threads.specs.{Sessions.{Session, TeamAt}, Kits.{IsKitOf, IsBack, kept_pass, passes_in, slots_of}};
+ghost use Rattle.pas_shared.specs.declared.region.SharedRegion.{SharedRegion as TheRegion};
+ghost use Rattle.pas_threads.specs.{Sessions.{Session, TeamAt}, Kits.{IsKitOf, pass_in, kept_pass, own_passes, passes_in, passes_with}};
 ghost use Rattle.pas_records.specs.Rooms.{records_in, room_of};
 
+use crate::keeper::Keeper;
 use crate::kit::SharedKit;
 use crate::phases::{Team, replay};
 use crate::workers::Worker;
@@ -24,49 +25,45 @@ pub struct Rooms {
     _team: Team,
 }
 
-/// Adds the pass that stands at this place.
-fn add_pass(passes: &mut Vec<SharedPass>, slot: Option<SharedPass>)
-    requires back { (pass : ThePass) × (slot ≡ Some pass) }
-    requires place { length passes.old.items < vec_capacity passes.old }
-    ensures added { map Some passes.new.items ≡ map Some passes.old.items ++ slot ∷ [] }
-    ensures many { length passes.new.items ≡ length passes.old.items + 1 }
+/// Takes the pass out of this slot, if there is one, to the next place.
+fn add_pass(passes: &mut Vec<SharedPass>, slot: &mut Option<SharedPass>)
+    requires { length passes.old.items + length (pass_in slot.old) ≤ vec_capacity passes.old }
+    ensures added { passes.new.items ≡ passes.old.items ++ pass_in slot.old }
+    ensures many { length passes.new.items ≡ length passes.old.items + length (pass_in slot.old) }
     ensures places { vec_capacity passes.new ≡ vec_capacity passes.old }
 {
-    let Some(pass) = slot else {
-        unreachable!();
-    };
-    passes.push_reserved(pass);
-}
-
-/// Takes the pass of the worker's keeper out, if it has one.
-fn add_kept_pass(passes: &mut Vec<SharedPass>, worker: &mut Worker)
-    requires places { length passes.old.items + length (kept_pass worker.old.keeper) ≤ vec_capacity passes.old }
-    ensures added { map Some passes.new.items ≡ map Some passes.old.items ++ kept_pass worker.old.keeper }
-    ensures many { length passes.new.items ≡ length passes.old.items + length (kept_pass worker.old.keeper) }
-    ensures places { vec_capacity passes.new ≡ vec_capacity passes.old }
-{
-    if let Some(keeper) = worker.keeper.take() {
-        add_pass(passes, Some(keeper.pass));
+    if let Some(pass) = slot.take() {
+        passes.push_reserved(pass);
     }
 }
 
-/// Takes the pass of the worker out, to the next place, and behind it that of its keeper.
-fn add_passes_of(passes: &mut Vec<SharedPass>, worker: &mut Worker)
-    requires back { IsBack worker.old }
-    requires places { length passes.old.items + (1 + length (kept_pass worker.old.keeper)) ≤ vec_capacity passes.old }
-    ensures added { map Some passes.new.items ≡ map Some passes.old.items ++ worker.old.pass ∷ kept_pass worker.old.keeper }
-    ensures many { length passes.new.items ≡ length passes.old.items + (1 + length (kept_pass worker.old.keeper)) }
+/// .. the pass of this keeper, if there is one.
+fn add_kept_pass(passes: &mut Vec<SharedPass>, keeper: &mut Option<Keeper>)
+    requires { length passes.old.items + length (kept_pass keeper.old) ≤ vec_capacity passes.old }
+    ensures added { passes.new.items ≡ passes.old.items ++ kept_pass keeper.old }
+    ensures many { length passes.new.items ≡ length passes.old.items + length (kept_pass keeper.old) }
     ensures places { vec_capacity passes.new ≡ vec_capacity passes.old }
 {
-    add_pass(passes, worker.pass.take());
-    add_kept_pass(passes, worker);
+    if let Some(keeper) = keeper.take() {
+        passes.push_reserved(keeper.pass);
+    }
+}
+
+/// .. that of the worker, and behind it that of its keeper.
+fn add_passes_of(passes: &mut Vec<SharedPass>, worker: &mut Worker)
+    requires { length passes.old.items + length (own_passes worker.old) ≤ vec_capacity passes.old }
+    ensures added { passes.new.items ≡ passes.old.items ++ own_passes worker.old }
+    ensures many { length passes.new.items ≡ length passes.old.items + length (own_passes worker.old) }
+    ensures places { vec_capacity passes.new ≡ vec_capacity passes.old }
+{
+    add_pass(passes, &mut worker.pass);
+    add_kept_pass(passes, &mut worker.keeper);
 }
 
 /// .. those of all workers.
 fn add_passes(passes: &mut Vec<SharedPass>, workers: &mut [Worker])
-    requires back { All IsBack workers.old }
-    requires places { length passes.old.items + length (passes_in workers.old) ≤ vec_capacity passes.old }
-    ensures added { map Some passes.new.items ≡ map Some passes.old.items ++ passes_in workers.old }
+    requires { length passes.old.items + length (passes_in workers.old) ≤ vec_capacity passes.old }
+    ensures { passes.new.items ≡ passes.old.items ++ passes_in workers.old }
 {
     let Some((worker, others)) = workers.split_first_mut() else {
         return;
@@ -79,9 +76,9 @@ fn add_passes(passes: &mut Vec<SharedPass>, workers: &mut [Worker])
 fn passes_of(team: &mut Team, mut passes: Vec<SharedPass>) -> Vec<SharedPass>
     requires none { passes.items ≡ [] }
     requires stands { (region : TheRegion) × (s : Session) × (end : Progress) × TeamAt region s [] team.old end × (s.threads + s.keepers < vec_capacity passes) }
-    ensures { map Some result.items ≡ slots_of team.old }
+    ensures { result.items ≡ passes_with team.old }
 {
-    add_pass(&mut passes, team.scavenger.pass.take());
+    add_pass(&mut passes, &mut team.scavenger.pass);
     add_passes(&mut passes, &mut team.threads);
     passes
 }

@@ -129,13 +129,15 @@ pub(crate) fn perform<R: Wait, G: Gate, M: Remake>(
 
 /// The book takes the requests of all workers over, after a phase.
 pub(crate) fn take_all(book: &mut NameBook, workers: &mut [Worker])
-    requires within { All (IsWithin (names_held book.old.names)) workers.old }
+    requires { All (IsWithin (names_held book.old.names)) workers.old }
     ensures taken { HasTaken book.old book.new workers.old }
-    ensures room { names_held book.new.names ≡ names_held book.old.names }
+    ensures held { names_held book.new.names ≡ names_held book.old.names }
+    ensures each { (i : ℕ) (d : Worker) → i < length workers.old → IsEmptied (get_or workers.old i d) (get_or workers.new i d) }
     ensures many { length workers.new ≡ length workers.old }
-    ensures emptied { (i : ℕ) (d : Worker) → i < length workers.old → IsEmptied (get_or workers.old i d) (get_or workers.new i d) }
 {
-    for index in 0..workers.len() {
-        book.take(&mut workers[index].requests);
-    }
+    let Some((worker, others)) = workers.split_first_mut() else {
+        return;
+    };
+    book.take(&mut worker.requests);
+    take_all(book, others);
 }

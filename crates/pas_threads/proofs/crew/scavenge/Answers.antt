@@ -1,7 +1,7 @@
 use Rattle.std.proofs.Common.{◌∙◌, refl, arith}
-use Rattle.pas_trace.specs.declared.plan.{Op.Op, What.TheVariants.Alloc}
-use Rattle.pas_threads.proofs.ByCrew.{chore_sound, next_acts, skip_acts, crew_begins, crew_before, crew_goes_on, crew_skips, crew_ends}
+use Rattle.pas_threads.proofs.{Common.Op, ByCrew.{chore_sound, next_acts, skip_acts, crew_begins, crew_before, crew_goes_on, crew_skips, crew_ends}}
 use Rattle.pas_threads.proofs.crew.scavenge.Goals.{in-Chore, in_default}
+use Rattle.pas_trace.specs.declared.plan.What.TheVariants.{Alloc}
 use Rattle.pas_threads.proofs.crew.scavenge.Goals as goal
 
 abbrev past : Op

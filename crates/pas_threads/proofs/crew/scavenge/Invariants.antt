@@ -1,10 +1,7 @@
 -- the scavenger's operations so far are done
 use Rattle.std.proofs.Common.{◌≡◌, ◌≤◌, ℕ, List, length}
-use Rattle.pas_shared.specs.declared.bench_desk.BenchHome.{BenchHome}
-use Rattle.pas_trace.specs.{EveryPlan.AreSound, Acts.scavenger_acts}
+use Rattle.pas_threads.proofs.{Common.{BenchHome, AreSound, scavenger_acts, Progress, Shift, home_at, standing_at, SitsLent, crew, CrewSits}, ByCrew.CrewSoFar}
 use Rattle.pas_utility.specs.Outcomes.{places_of}
-use Rattle.pas_answers.specs.Answers.{Progress}
-use Rattle.pas_threads.{specs.{Lent.{Shift, home_at, standing_at, SitsLent}, Crews.{crew, CrewSits}}, proofs.ByCrew.CrewSoFar}
 use Rattle.pas_threads.proofs.crew.scavenge.Given as goal
 
 abbrev pub invariant-loop-op : goal.invariant-loop-op

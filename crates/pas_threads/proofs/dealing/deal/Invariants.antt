@@ -1,7 +1,6 @@
 -- the workers so far are dealt, and there are places for the others
 use Rattle.std.proofs.Common.{◌≡◌, ◌+◌, ◌≤◌, length, vec_capacity}
-use Rattle.pas_bits.specs.Masks.{is_set}
-use Rattle.pas_threads.{specs.Dealing.{picked, is_in, is_out}, proofs.Dealt.Piles}
+use Rattle.pas_threads.proofs.{Common.{is_set, picked, is_in, is_out}, Dealt.Piles}
 use Rattle.pas_threads.proofs.dealing.deal.Given as goal
 
 abbrev pub invariant-loop-worker : goal.invariant-loop-worker

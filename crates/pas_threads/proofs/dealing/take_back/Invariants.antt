@@ -1,7 +1,6 @@
 -- the workers of the threads behind the first ones are back
 use Rattle.std.proofs.Common.{◌≡◌, ◌+◌, length, vec_capacity}
-use Rattle.pas_bits.specs.Masks.{is_set}
-use Rattle.pas_threads.{specs.Dealing.AreSized, proofs.Dealt.Piles}
+use Rattle.pas_threads.proofs.{Common.{is_set, AreSized}, Dealt.Piles}
 use Rattle.pas_threads.proofs.dealing.take_back.Given as goal
 
 abbrev pub invariant-loop-left : goal.invariant-loop-left

@@ -1,18 +1,12 @@
-use Rattle.std.proofs.Common.{refl, arith}
+use Rattle.std.proofs.Common.{arith}
 use Rattle.pas_threads.proofs.CrewSits.{leaves_next, leaves_go_on, leaves_end}
 use Rattle.pas_threads.proofs.lending.let_lent_leave.Goals as goal
 
+-- before the first turn nobody has left
 pub loop-index-init : goal.loop-index-init
 loop-index-init c = record {
   of = c.requires.of;
-  far = λ s actors base p may. record {
-    each = λ j d less within. absurd (omega (arith, less));
-    left = λ j d from. refl;
-    actors = actors;
-    fresh = may.fresh;
-    crew = may.crew;
-    within = λ k its. its;
-  };
+  far = λ s actors base p may. search arith;
 }
 
 pub let_leave-requires-clause-may : goal.let_leave-requires-clause-may

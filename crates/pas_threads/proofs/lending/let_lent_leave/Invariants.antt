@@ -1,8 +1,6 @@
 -- the lent threads before this place left the bench, and the others sit there
 use Rattle.std.proofs.Common.{ℕ, List}
-use Rattle.pas_answers.specs.Answers.{Progress}
-use Rattle.pas_shared.specs.{Benches.{rows_on, IsBenchOf}, declared.rule.Entry.Entry}
-use Rattle.pas_threads.{specs.Lent.{Shift, MayLeaveAll}, proofs.CrewSits.LeftSoFar}
+use Rattle.pas_threads.proofs.{Common.{Progress, rows_on, IsBenchOf, Entry, Shift, MayLeaveAll}, CrewSits.LeftSoFar}
 use Rattle.pas_threads.proofs.lending.let_lent_leave.Given as goal
 
 abbrev pub invariant-loop-index : goal.invariant-loop-index

@@ -1,12 +1,12 @@
 use Rattle.std.proofs.Common.{◌≡◌, ◌≢◌, ◌∙◌, refl, sym, subst, arith, get_or-set_other}
-use Rattle.pas_threads.{specs.{Hands.HasPass, declared.workers.Worker.Worker}, proofs.CrewSits.{seats_go_on, seats_end}}
+use Rattle.pas_threads.proofs.{Common.{HasPass, Worker}, CrewSits.{seats_go_on, seats_end}}
 use Rattle.pas_threads.proofs.lending.seat_lent.Goals as goal
 
 pub loop-index-init : goal.loop-index-init
 loop-index-init c = record {
   of = c.requires.of;
   left = λ j d from. refl;
-  far = λ s p lent crew tell. record { each = λ j d less within. absurd (omega (arith, less)); left = λ j d from. refl; crew = crew; tell = tell };
+  far = λ s p lent crew tell. record { each = λ j d less within. absurd (omega (arith, less)); crew = crew; tell = tell };
 }
 
 pub seat_one-requires-clause-has : goal.seat_one-requires-clause-has
@@ -25,7 +25,8 @@ loop-index-preserved c =
       of = c.seat_one.ensures.of;
       left = λ j e from. let ne : j ≢ i = λ (is : j ≡ i). omega (arith, is, from) in get_or-set_other _ i j w e ne ∙ inv.left j e (omega (arith, from));
       far = λ s p lent crew tell.
-          seats_go_on c.index-lent-index.result w c.loop-index-test.true c.loop-index.auto.lent lent (inv.far s p lent crew tell) c.seat_one.ensures.seated;
+          seats_go_on c.index-lent-index.result w c.loop-index-test.true c.loop-index.auto.lent lent (inv.left i _ (omega arith)) (inv.far s p lent crew tell)
+          c.seat_one.ensures.seated;
     }
 
 pub returns-clause-seated : goal.returns-clause-seated

@@ -1,8 +1,6 @@
 -- the lent threads before this place sit on the bench, and the others have their passes
 use Rattle.std.proofs.Common.{◌≡◌, ◌≤◌, ℕ, get_or}
-use Rattle.pas_answers.specs.Answers.{Progress}
-use Rattle.pas_shared.specs.{Benches.{rows_on, IsBenchOf}, Ruled.all_actors}
-use Rattle.pas_threads.{specs.{Lent.{Shift, AreLent, AreOfCrew, TellAs}, declared.workers.Worker.Worker}, proofs.CrewSits.SeatedSoFar}
+use Rattle.pas_threads.proofs.{Common.{Progress, rows_on, IsBenchOf, all_actors, Shift, AreLent, AreOfCrew, TellAs, Worker}, CrewSits.SeatedSoFar}
 use Rattle.pas_threads.proofs.lending.seat_lent.Given as goal
 
 abbrev pub invariant-loop-index : goal.invariant-loop-index

@@ -1,11 +1,10 @@
-use Rattle.std.proofs.{Common.{◌∙◌, refl, sym, subst}, lemmas.Option.same_Some}
-use Rattle.pas_shared.specs.Passes.{IsPassOf}
+use Rattle.std.proofs.Common.{arith, ◌∙◌, refl, sym, subst}
+use Rattle.pas_threads.proofs.Common.{same_Some, IsPassOf}
 use Rattle.pas_threads.proofs.lending.seat_one.Goals as goal
 
 pub seat-requires-clause-pass : goal.seat-requires-clause-pass
 seat-requires-clause-pass c =
-    let has = c.requires.has in
-    subst (IsPassOf c.args.region.now) (same_Some _ _ (sym has.present ∙ (sym c.take.ensures.value ∙ c.in-Some.is))) has.of
+    search (arith, same_Some)
 
 pub returns-clause-seated : goal.returns-clause-seated
 returns-clause-seated c =

@@ -1,7 +1,7 @@
 use Rattle.std.proofs.Common.{◌∙◌, ◌++◌, ◌∷◌, [], true, false, refl, ap}
 use Rattle.pas_steps.specs.Desks.{Seat}
-use Rattle.pas_records.specs.{Rooms.records_in, declared.record.{Record.Record, Said.Said}}
-use Rattle.pas_threads.proofs.TakingTurns.{pushed_none}
+use Rattle.pas_threads.proofs.{Common.{records_in, Record}, TakingTurns.pushed_none}
+use Rattle.pas_records.specs.declared.record.Said.{Said}
 use Rattle.pas_threads.proofs.lending.stop_and_tell.Goals as goal
 
 pub stop_if_idle-requires : goal.stop_if_idle-requires

@@ -1,39 +1,34 @@
 use Rattle.std.proofs.Common.{◌∙◌, length, refl, ap, sym, arith, length-append}
-use Rattle.pas_records.specs.Rooms.{records_in}
-use Rattle.pas_shared.specs.declared.bench.Member.{Member}
-use Rattle.pas_answers.specs.Ways.{records_by}
-use Rattle.pas_threads.{specs.Lent.number_in, proofs.ByCrew.{stops_begin, stops_go_on, stops_end}}
+use Rattle.pas_threads.proofs.{Common.{records_in, Member, records_by, number_in}, ByCrew.{stops_begin, stops_go_on, stops_end}}
 use Rattle.pas_threads.proofs.lending.stop_idle.Goals as goal
 
 pub loop-index-init : goal.loop-index-init
 loop-index-init c = record { far = λ h s p there lent read. stops_begin c.args.epochs there lent; home = refl; member = refl }
 
-pub stop_lent-requires-clause-may : goal.stop_lent-requires-clause-may
-stop_lent-requires-clause-may c =
+pub stop_lent-requires : goal.stop_lent-requires
+stop_lent-requires c =
     let r = c.requires.lent in
     let s = r.1 in
     let inv = c.loop-index.invariant in
     let so = inv.far r.0 s r.2 r.3 r.4 r.6 in
+    let did = so.done.did in
     let i = c.loop-index.index in
     let lt = c.loop-index-test.true in
-    let many = r.4.many in (
-      r.0,
-      s.profile,
-      number_in s i,
-      s.lends i,
-      so.done.did.turns.came.reached,
-      record { home = inv.home ∙ r.3.home; over = so.done.over },
-      so.done.did.turns.stand i c.index-lent-index.result lt,
-      λ same. s.distinct.threads i (omega (arith, lt, many)) (sym r.5 ∙ (sym (ap (λ (m : Member). m.actor) inv.member) ∙ same)),
-      so.done.did.turns.leaves.epoch ∙ r.6,
-    )
-
-pub stop_lent-requires-clause-room : goal.stop_lent-requires-clause-room
-stop_lent-requires-clause-room c =
-    let r = c.requires.lent in
-    let so = c.loop-index.invariant.far r.0 r.1 r.2 r.3 r.4 r.6 in
-    let longer = ap length so.done.did.told.added ∙ length-append (records_in c.args.out.now) (records_by 0 so.done.did.turns.came.said) in
-    omega (arith, longer, so.done.did.few, so.done.did.told.room, c.requires.room, c.loop-index-test.true)
+    let longer = ap length did.told.added ∙ length-append (records_in c.args.out.now) (records_by 0 did.turns.came.said) in
+    record {
+      may = (
+        r.0,
+        s.profile,
+        number_in s i,
+        s.lends i,
+        did.turns.came.reached,
+        record { home = inv.home ∙ r.3.home; over = so.done.over },
+        did.turns.stand i c.index-lent-index.result lt,
+        λ same. s.distinct.threads i (omega (arith, lt, r.4.many)) (sym r.5 ∙ (sym (ap (λ (m : Member). m.actor) inv.member) ∙ same)),
+        did.turns.leaves.epoch ∙ r.6,
+      );
+      room = omega (arith, longer, did.few, did.told.room, c.requires.room, lt);
+    }
 
 pub loop-index-preserved : goal.loop-index-preserved
 loop-index-preserved c = record {

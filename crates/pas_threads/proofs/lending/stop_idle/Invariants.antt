@@ -1,8 +1,6 @@
 -- the lent threads before this place were stopped where they were idle for long enough
 use Rattle.std.proofs.Common.{◌≡◌}
-use Rattle.pas_shared.specs.declared.bench_desk.BenchHome.{BenchHome}
-use Rattle.pas_answers.specs.Answers.{Progress}
-use Rattle.pas_threads.{specs.Lent.{Shift, home_at, AreBeside, SitsLent, IsDeskAt}, proofs.ByCrew.StopsSoFar}
+use Rattle.pas_threads.proofs.{Common.{BenchHome, Progress, Shift, home_at, AreBeside, SitsLent, IsDeskAt}, ByCrew.StopsSoFar}
 use Rattle.pas_threads.proofs.lending.stop_idle.Given as goal
 
 abbrev pub invariant-loop-index : goal.invariant-loop-index

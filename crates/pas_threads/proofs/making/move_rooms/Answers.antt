@@ -1,6 +1,5 @@
-use Rattle.std.proofs.{Common.{◌≡◌, ◌<◌, [], length, arith, length-set}, lemmas.List.Elements.All-set}
-use Rattle.pas_profile.specs.Rooms.{shown, EventRoom}
-use Rattle.pas_threads.proofs.StartAndEnd.{one_moved}
+use Rattle.std.proofs.Common.{◌≡◌, ◌<◌, [], length, arith, length-set}
+use Rattle.pas_threads.proofs.{Common.{All-set, shown, EventRoom}, StartAndEnd.one_moved}
 use Rattle.pas_threads.proofs.making.move_rooms.Goals as goal
 
 pub loop-other-preserved : goal.loop-other-preserved

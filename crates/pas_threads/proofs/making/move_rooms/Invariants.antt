@@ -1,7 +1,6 @@
 -- the rooms so far are of the sizes that they had, and none has an event
 use Rattle.std.proofs.Common.{ℕ, ◌≡◌, ◌≤◌, [], Option, All, length}
-use Rattle.pas_profile.specs.Rooms.{shown, EventRoom}
-use Rattle.pas_acts.specs.Parts.{AreRooms}
+use Rattle.pas_threads.proofs.Common.{shown, EventRoom, AreRooms}
 use Rattle.pas_threads.proofs.making.move_rooms.Given as goal
 
 abbrev pub invariant-loop-other : goal.invariant-loop-other

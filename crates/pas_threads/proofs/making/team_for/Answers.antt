@@ -1,20 +1,14 @@
 use Rattle.std.proofs.Common.{◌≡◌, ◌≤◌, ◌+◌, ◌++◌, ℕ, List, take, drop, length, slice_index, ap, sym, ◌∙◌, subst, arith, vec_capacity, length-drop}
-use Rattle.std.proofs.{Common.{length-take-le, take-append-drop}, lemmas.Option.same_Some}
-use Rattle.pas_trace.{specs.Plans.bounds_of, proofs.Keepers.plan_actors}
-use Rattle.pas_shared.specs.declared.pass.SharedPass.{SharedPass}
-use Rattle.pas_answers.specs.{Names.names_held, Replays.{phases_of, region_of, threads_of, keepers_of}}
-use Rattle.pas_acts.proofs.{PlanFacts.{plan_valid, plan_threads, plan_bounds, plan_below}, Naming.all_higher}
-use Rattle.pas_threads.{specs.Kits.{AreEquipped, IsSupplied, AreKeptBy}, proofs.Keepers.have_keepers}
+use Rattle.std.proofs.Common.{length-take-le, take-append-drop}
+use Rattle.pas_threads.proofs.Common.{same_Some, bounds_of, plan_actors, SharedPass, names_held, phases_of, region_of, threads_of, keepers_of, plan_valid}
+use Rattle.pas_threads.proofs.{Common.{plan_threads, plan_bounds, AreEquipped, IsSupplied, AreKeptBy}, Keepers.have_keepers}
+use Rattle.pas_acts.proofs.{PlanFacts.plan_below, Naming.all_higher}
 use Rattle.pas_threads.proofs.making.team_for.Goals as goal
 
 -- the passes of the threads, and those of the keepers behind them
 cut : (threads keepers : ℕ) (all own kept : List SharedPass) → length all ≡ threads + keepers → own ≡ take threads all → kept ≡ drop threads all
     → (length own ≡ threads) × (length kept ≡ keepers) × (all ≡ own ++ kept)
-cut threads keepers all own kept many first last = (
-  ap length first ∙ length-take-le threads all (omega (arith, many)),
-  omega (arith, ap length last, length-drop threads all, many),
-  cc (take-append-drop threads all, first, last),
-)
+cut threads keepers all own kept many first last = search (arith, length-take-le, length-drop, take-append-drop)
 
 pub caches_for-requires-clause-few : goal.caches_for-requires-clause-few
 caches_for-requires-clause-few c =
@@ -28,9 +22,7 @@ workers_for-requires-clause-bounds c =
 
 pub workers_for-requires-clause-books : goal.workers_for-requires-clause-books
 workers_for-requires-clause-books c =
-    let plan = c.args.plan.now in
-    let cut = cut (threads_of plan) (keepers_of plan) c.args.others.items _ _ c.requires.passes c.in-Ok.ensures.items c.in-Ok.ensures.tail in
-    omega (arith, c.in_ok-books.ensures.many, cut.1)
+    search (arith, cut)
 
 pub bounds-bounds-0 : goal.bounds-bounds-0
 bounds-bounds-0 c =
@@ -45,8 +37,7 @@ returns c =
     let cut = cut (threads_of plan) (keepers_of plan) c.args.others.items own kept c.requires.passes c.in-Ok.ensures.items c.in-Ok.ensures.tail in
     let many : length own ≡ threads_of plan = cut.0 in
     let size : length kept ≡ keepers_of plan = cut.1 in
-    let equipped : AreEquipped (bounds_of plan.bounds) own threads.items = subst
-    (λ bs. AreEquipped bs own threads.items) c.as_slice-bounds.ensures c.in_ok-threads.ensures.workers in
+    let equipped : AreEquipped (bounds_of plan.bounds) own threads.items = rw c.as_slice-bounds.ensures at c.in_ok-threads.ensures.workers in
     let workers : length threads.items ≡ threads_of plan = equipped.many ∙ many in
     let kept_by = subst (λ bs. AreKeptBy bs (threads_of plan) kept c.in_ok-books.books.items threads.items) c.as_slice-bounds.ensures
     (subst (λ n. AreKeptBy c.as_slice-bounds.result.now n kept c.in_ok-books.books.items threads.items) many c.in_ok-threads.ensures.kept) in
@@ -65,6 +56,6 @@ returns c =
           no_name = c.in_ok-book.ensures.empty;
           names = all_higher plan.names_limit (names_held c.in_ok-book.book.names) (phases_of plan) c.in_ok-book.ensures.room (plan_below c.requires.plan.1);
         };
-        places = record { workers = capacity; hands = omega (arith, hands); lent = c.in_ok-scavenger.ensures.places; free = c.in-Ok-with_capacity.ensures.items };
+        places = (capacity, omega (arith, hands), c.in_ok-scavenger.ensures.places, c.in-Ok-with_capacity.ensures.items);
       },
     )

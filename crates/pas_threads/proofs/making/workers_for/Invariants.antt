@@ -1,9 +1,6 @@
 -- the workers so far have the first passes, and keepers with the first of theirs, and there is a cache for each of the others
 use Rattle.std.proofs.Common.{◌≡◌, ◌≤◌, ◌+◌, ◌++◌, List, All, drop, length, vec_capacity}
-use Rattle.pas_cache.specs.{Caches.cached, declared.cache.ThreadCache.ThreadCache}
-use Rattle.pas_shared.specs.declared.pass.SharedPass.{SharedPass}
-use Rattle.pas_answers.specs.Replays.{empty_cache}
-use Rattle.pas_threads.specs.Kits.{AreEquipped, AreKeptBy}
+use Rattle.pas_threads.proofs.Common.{cached, ThreadCache, SharedPass, empty_cache, AreEquipped, AreKeptBy}
 use Rattle.pas_threads.proofs.making.workers_for.Given as goal
 
 abbrev pub invariant-loop-pass : goal.invariant-loop-pass

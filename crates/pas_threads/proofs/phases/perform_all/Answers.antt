@@ -1,8 +1,6 @@
-use Rattle.std.proofs.Common.{◌≡◌, ◌∙◌, true, false, ap, refl, arith, subst, length}
-use Rattle.pas_trace.specs.Acts.{is_active}
-use Rattle.pas_bits.specs.Masks.{is_set}
-use Rattle.pas_threads.{specs.{Dealing.{count_of, is_in, is_out, AreDealt}, Performing.round, declared.scavenger.Scavenger.Scavenger}, proofs.Dealt.picked_many}
-use Rattle.pas_threads.proofs.{Performed.{shift_of, own_may, may_scavenge, crew_done, piece}, phases.perform_all.{Given.Over, Goals.After-deal}}
+use Rattle.std.proofs.Common.{◌≡◌, ◌∙◌, true, false, refl, arith, subst, length}
+use Rattle.pas_threads.proofs.{Common.{is_active, AreDealt, round, Scavenger}, Dealt.picked_many, Performed.{shift_of, own_may, may_scavenge, crew_done, piece}}
+use Rattle.pas_threads.proofs.phases.perform_all.{Given.Over, Goals.After-deal}
 use Rattle.pas_threads.proofs.phases.perform_all.Goals as goal
 
 -- the workers are dealt into those that have an operation and the others
@@ -26,12 +24,7 @@ act_with-requires-clause-scavenger g c = λ here lives busy.
 
 pub take_back-requires-clause-sized : goal.take_back-requires-clause-sized
 take_back-requires-clause-sized g c =
-    let ws = c.args.team.threads.items in
-    let dealt = c.deal.ensures.dealt in
-    let count : length ws ≡ c.len-count.result = (omega (arith, c.args.team.threads.ok.0, c.len-count.ensures)) in (
-      c.act_with.ensures.many ∙ ap length dealt.0 ∙ picked_many (is_in (is_set c.args.awake)) ws ∙ ap (count_of (is_in (is_set c.args.awake))) count,
-      c.act_with.ensures.lent.0 ∙ ap length dealt.1 ∙ picked_many (is_out (is_set c.args.awake)) ws ∙ ap (count_of (is_out (is_set c.args.awake))) count,
-    )
+    search (arith, picked_many)
 
 pub returns : goal.returns
 returns g c = record {
@@ -55,11 +48,11 @@ returns g c = record {
         many = size;
         none = c.take_back.ensures.none.1;
         book = refl;
-        places = record {
-          workers = omega (arith, ready.places.workers, c.deal.ensures.places.0, c.take_back.ensures.places.0);
-          hands = omega (arith, ready.places.hands, c.deal.ensures.places.1, c.take_back.ensures.places.1, c.act_with.ensures.place);
-          lent = omega (arith, ready.places.lent, c.deal.ensures.places.2, c.take_back.ensures.places.2, c.act_with.ensures.lent.1);
-          free = c.take_back.ensures.none.0;
-        };
+        places = (
+          omega (arith, ready.places.0, c.deal.ensures.places.0, c.take_back.ensures.places.0),
+          omega (arith, ready.places.1, c.deal.ensures.places.1, c.take_back.ensures.places.1, c.act_with.ensures.place),
+          omega (arith, ready.places.2, c.deal.ensures.places.2, c.take_back.ensures.places.2, c.act_with.ensures.lent.1),
+          c.take_back.ensures.none.0,
+        );
       };
 }

@@ -1,6 +1,5 @@
-use Rattle.std.proofs.{Common.{◌∙◌, suc, length, get_or, refl, ap, sym, subst, arith, ◌≡◌}, lemmas.List.with_items_is}
-use Rattle.pas_threads.{specs.Settling.{HasHeard, HasBench, IsButBench}, proofs.TakingTurns.{bench_left, heard_still, is_heard}}
-use Rattle.pas_bits.specs.Masks.{is_set}
+use Rattle.std.proofs.Common.{◌∙◌, suc, length, get_or, refl, ap, sym, subst, arith, ◌≡◌}
+use Rattle.pas_threads.proofs.{Common.{with_items_is, HasBench, is_set}, TakingTurns.{bench_left, heard_still, is_heard}}
 use Rattle.pas_threads.proofs.phases.perform_and_hear.Goals as goal
 
 pub hear_all-requires-clause-few : goal.hear_all-requires-clause-few
@@ -33,11 +32,9 @@ returns-clause-done g c = λ s later more p ready.
     let now = with_items_is team.threads c.hear_all.new.workers (c.hear_all.ensures.many ∙ c.deref_mut.ensures.len) in
     let size = ap length value in
     is_heard _ c.hear_if.new.left acted
-    (λ i d lt. subst (λ ws. IsButBench (get_or team.threads.items i d) (get_or ws i d)) (sym now)
-    (subst (λ ws. IsButBench (get_or ws i d) (get_or c.hear_all.new.workers i d)) value (c.hear_all.ensures.same i d (omega (arith, lt, size)))))
+    (λ i d lt. search arith)
     (ap length now ∙ c.hear_all.ensures.many ∙ size) refl refl
-    (record { workers = acted.places.workers; hands = acted.places.hands; lent = acted.places.lent; free = acted.places.free })
+    acted.places
     (λ i d lt on. heard_still c.hear_all.new.ledger c.hear_if.new.ledger c.hear_if.ensures.saw
-    (subst (λ ws. HasHeard c.hear_all.new.ledger (get_or ws i d).bench) value
-    (c.hear_all.ensures.heard i (suc i) d (omega (arith, lt, size)) (omega arith) (c.requires.awake (suc i) ∙ on))))
+    (rw value at (c.hear_all.ensures.heard i (suc i) d (omega (arith, lt, size)) (omega arith) (c.requires.awake (suc i) ∙ on))))
     (λ on. c.hear_if.ensures.heard (c.get-busy.ensures ∙ c.requires.awake 0 ∙ on))

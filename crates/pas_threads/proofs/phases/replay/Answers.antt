@@ -1,25 +1,16 @@
-use Rattle.std.proofs.{Common.{◌≡◌, ◌+◌, ◌++◌, ◌∙◌, List, [], ◌∷◌, length, drop, refl, sym, ap, arith, map}, lemmas.List.length-map}
-use Rattle.pas_trace.specs.{Plans.ops_of, declared.plan.Op.Op}
-use Rattle.pas_answers.specs.Replays.{at_start}
-use Rattle.pas_shared.specs.Ledgers.{so_far}
-use Rattle.pas_threads.{specs.Sessions.{Session, TeamAt, HasRoom}, proofs.BetweenPhases.{AfterPhases, BeforePhase, BeforeClose, no_phase, as_next, as_last}}
-use Rattle.pas_threads.proofs.{BetweenPhases.{spare_for_mark, first_begins, other_begins, phase_ends, close_begins, close_ends}, phases.replay.Given.Over}
-use Rattle.pas_threads.proofs.phases.replay.Goals.{then-number-gt-UNMARKED, else-number-gt-UNMARKED, After-as_slice, After-push-2}
-use Rattle.pas_records.specs.{Rooms.records_in, declared.record.Record.Record}
+use Rattle.std.proofs.Common.{◌≡◌, ◌+◌, ◌++◌, ◌∙◌, List, [], ◌∷◌, length, drop, ap, arith, map}
+use Rattle.pas_threads.proofs.{Common.{length-map, ops_of, Op, at_start, so_far, Session, TeamAt, HasRoom, records_in, Record}, BetweenPhases.AfterPhases}
+use Rattle.pas_threads.proofs.BetweenPhases.{BeforePhase, BeforeClose, no_phase, as_next, as_last, spare_for_mark, first_begins, other_begins, phase_ends}
+use Rattle.pas_threads.proofs.{BetweenPhases.{close_begins, close_ends}, phases.replay.{Given.Over, Goals.{then-number-gt-UNMARKED, else-number-gt-UNMARKED}}}
+use Rattle.pas_threads.proofs.phases.replay.Goals.{After-as_slice, After-push-2}
 use Rattle.pas_threads.proofs.phases.replay.Goals as goal
 
 pub loop-phase-init : goal.loop-phase-init
-loop-phase-init g c = record {
-  far = λ s at room. no_phase c.requires.ledger.1 c.requires.empty (ap (λ n. n + 1) (sym (length-map c.args.phases.now ops_of))) at room;
-  ledger = c.requires.ledger.0;
-  count = refl;
-}
+loop-phase-init g c = search (arith, no_phase, length-map)
 
 pub push-requires : goal.push-requires
 push-requires g c =
-    let st = c.requires.stands in
-    let item = c.phase-item.result in
-    spare_for_mark (as_next c.args.phases.now c.loop-phase.phase-index item (ops_of item) c.loop-phase-test.true c.phase-item.is refl (c.loop-phase.invariant.far st.0 st.1 st.2))
+    search (arith, spare_for_mark, as_next)
 
 -- before the operations of a phase: its mark was written from the second one on
 module _ (g : Over) (c : After-as_slice g) (s : Session) (at : TeamAt c.args.region.now s (map ops_of c.args.phases.now) c.args.team at_start)
@@ -66,8 +57,7 @@ loop-phase-preserved g c =
 
 pub push-requires-2 : goal.push-requires-2
 push-requires-2 g c =
-    let st = c.requires.stands in
-    spare_for_mark (as_last c.args.phases.now c.loop-phase.phase-index c.loop-phase-test.false (c.loop-phase.invariant.far st.0 st.1 st.2))
+    search (arith, spare_for_mark, as_last)
 
 -- before the stops: the mark of the close was written
 closing : (g : Over) (c : After-push-2 g) (s : Session) → TeamAt c.args.region.now s (map ops_of c.args.phases.now) c.args.team at_start
@@ -75,14 +65,11 @@ closing : (g : Over) (c : After-push-2 g) (s : Session) → TeamAt c.args.region
     → BeforeClose c.args.region.now s (map ops_of c.args.phases.now) c.loop-phase.team (so_far c.loop-phase.ledger) c.push-2.new.self
 closing g c s at room = close_begins (as_last c.args.phases.now c.loop-phase.phase-index c.loop-phase-test.false (c.loop-phase.invariant.far s at room)) c.push-2.ensures.added c.push-2.ensures.size
 
-pub finish-requires-clause-ledger : goal.finish-requires-clause-ledger
-finish-requires-clause-ledger g c = c.loop-phase.invariant.ledger
-
-pub finish-requires-clause-may : goal.finish-requires-clause-may
-finish-requires-clause-may g c =
+pub finish-requires : goal.finish-requires
+finish-requires g c =
     let st = c.requires.stands in
-    let before = closing g (goal.at.finish-requires-clause-may g c).After-push-2 st.0 st.1 st.2 in
-    (st.0, before.p, before.team_at, before.marked, before.room, before.stand)
+    let before = closing g (goal.at.finish-requires g c).After-push-2 st.0 st.1 st.2 in
+    record { ledger = c.loop-phase.invariant.ledger; may = (st.0, before.p, before.team_at, before.marked, before.room, before.stand) }
 
 pub returns : goal.returns
 returns g c = record {

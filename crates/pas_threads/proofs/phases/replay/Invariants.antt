@@ -1,9 +1,6 @@
 -- the phases so far are done
 use Rattle.std.proofs.Common.{◌≡◌, ◌+◌, drop, length, map}
-use Rattle.pas_trace.specs.Plans.{ops_of}
-use Rattle.pas_answers.specs.Replays.{at_start}
-use Rattle.pas_shared.specs.Ledgers.{so_far, IsLedgerOf}
-use Rattle.pas_threads.{specs.Sessions.{Session, TeamAt, HasRoom}, proofs.BetweenPhases.AfterPhases}
+use Rattle.pas_threads.proofs.{Common.{ops_of, at_start, so_far, IsLedgerOf, Session, TeamAt, HasRoom}, BetweenPhases.AfterPhases}
 use Rattle.pas_threads.proofs.phases.replay.Given as goal
 
 abbrev pub invariant-loop-phase : goal.invariant-loop-phase

@@ -1,28 +1,20 @@
-use Rattle.std.proofs.{Common.{◌∙◌, length, refl, ap, sym, subst}, lemmas.{List.with_items_is, Option.same_Some}}
-use Rattle.pas_shared.specs.Passes.{IsPassOf}
-use Rattle.pas_trace.specs.Acts.{scavenger_acts}
-use Rattle.pas_threads.{specs.{Crews.CrewAt, Scavengers.crew_of}, proofs.Benched.seated}
+use Rattle.std.proofs.Common.{arith, ◌∙◌, refl, sym, subst}
+use Rattle.pas_threads.proofs.{Common.{with_items_is, same_Some, IsPassOf, scavenger_acts, CrewAt, crew_of}, Benched.seated}
 use Rattle.pas_threads.proofs.scavenger.keep_up.Goals as goal
 
-pub scavenge_seated-pass-requires-clause-pass : goal.scavenge_seated-pass-requires-clause-pass
-scavenge_seated-pass-requires-clause-pass g c =
-    let has = c.requires.may.stands.has in
-    subst (IsPassOf c.args.region.now) (same_Some _ _ (sym has.present ∙ (sym c.take.ensures.value ∙ c.in-Some.is))) has.of
-
-pub scavenge_seated-pass-requires-clause-may : goal.scavenge_seated-pass-requires-clause-may
-scavenge_seated-pass-requires-clause-may g c =
+pub scavenge_seated-pass-requires : goal.scavenge_seated-pass-requires
+scavenge_seated-pass-requires g c =
     let may = c.requires.may in
+    let has = may.stands.has in
     let s = may.shift in
     let old = c.args.scavenger.now in
-    let acts = scavenger_acts s.idle c.args.ops.now in
-    let pass = c.in-Some.pass in
-    let is = sym c.take.ensures.value ∙ c.in-Some.is in (
-      s,
-      may.asked,
-      may.progress,
-      may.sound,
-      rw c.deref_mut.ensures.value (seated (λ σ. CrewAt c.args.region.now s acts (crew_of σ old) may.progress) pass is may.stands.has may.stands.at),
-    )
+    let is = sym c.take.ensures.value ∙ c.in-Some.is in
+    let at = seated (λ σ. CrewAt c.args.region.now s (scavenger_acts s.idle c.args.ops.now) (crew_of σ old) may.progress) c.in-Some.pass is has may.stands.at in
+    record {
+      few = c.requires.few;
+      pass = subst (IsPassOf c.args.region.now) (same_Some _ _ (sym has.present ∙ is)) has.of;
+      may = (s, may.asked, may.progress, may.sound, rw c.deref_mut.ensures.value at);
+    }
 
 pub returns : goal.returns
 returns g c = record {
@@ -33,23 +25,18 @@ returns g c = record {
         let is = sym c.take.ensures.value ∙ c.in-Some.is in
         let acts = scavenger_acts s.idle c.args.ops.now in
         let old = c.args.scavenger.now in
-        let after = c.scavenge_seated-pass.result.0 in
-        let bench = c.scavenge_seated-pass.result.1 in
-        let lent = c.scavenge_seated-pass.new.lent in
         let at = rw (sym c.deref_mut.ensures.value) at (seated (λ σ. CrewAt region s acts (crew_of σ old) p) pass is stands.has stands.at) in
-        let given = with_items_is old.lent lent (c.scavenge_seated-pass.ensures.many ∙ c.deref_mut.ensures.len) in
+        let given = with_items_is old.lent c.scavenge_seated-pass.new.lent (c.scavenge_seated-pass.ensures.many ∙ c.deref_mut.ensures.len) in
         let left = rw (c.deref_mut.ensures.value, sym given) at (c.scavenge_seated-pass.ensures.did s asked p sound at) in
-        let has = stands.has in
         record {
           did = record {
-            before = record { pass = pass; present = is; of = subst (IsPassOf region) (same_Some _ _ (sym has.present ∙ is)) has.of };
-            after = record { pass = after; present = refl; of = left.of };
+            before = record { pass = pass; present = is; of = subst (IsPassOf region) (same_Some _ _ (sym stands.has.present ∙ is)) stands.has.of };
+            after = record { pass = c.scavenge_seated-pass.result.0; present = refl; of = left.of };
             does = left.did;
           };
           left = left.left;
         };
-    many = ap length (with_items_is c.args.scavenger.now.lent c.scavenge_seated-pass.new.lent (c.scavenge_seated-pass.ensures.many ∙ c.deref_mut.ensures.len))
-        ∙ c.scavenge_seated-pass.ensures.many ∙ ap length c.deref_mut.ensures.value;
+    many = search (arith, with_items_is);
     places = refl;
   };
 }

@@ -1,13 +1,11 @@
-use Rattle.std.proofs.Common.{◌≡◌, sym, subst}
-use Rattle.pas_shared.specs.{Ruled.{made_in, only_this, isnt, rows_of_only}, Passes.{seat_of, view_of}, Benches.{first_row, rows_on, seat_of_member, HasLooked}}
-use Rattle.pas_shared.specs.{Benches.IsBenchOf, declared.bench.Member.Member}
+use Rattle.std.proofs.Common.{arith, ◌≡◌, subst}
+use Rattle.pas_threads.proofs.Common.{made_in, only_this, isnt, rows_of_only, seat_of, view_of, first_row, rows_on, seat_of_member, HasLooked, Member}
 use Rattle.pas_threads.proofs.CrewSits.{all_may_leave, own_sits, all_rose}
 use Rattle.pas_threads.proofs.scavenger.rise.Goals as goal
 
 pub look-requires : goal.look-requires
 look-requires c =
-    let desk = c.args.desk in
-    record { of = subst (IsBenchOf c.args.region.now) (sym c.into_parts-bench.ensures.bench) (subst (λ r. IsBenchOf r desk.place.bench) c.requires.region desk.of) }
+    search arith
 
 pub let_lent_leave-requires-clause-may : goal.let_lent_leave-requires-clause-may
 let_lent_leave-requires-clause-may c =
@@ -15,22 +13,17 @@ let_lent_leave-requires-clause-may c =
     let looked = subst (λ b. HasLooked (rows_on b) (rows_on c.look.new.self)) c.into_parts-bench.ensures.bench c.look.ensures.looked in
     (m.0, _, _, m.1, all_may_leave c.args.desk m.2 c.look.new.self looked)
 
-pub leave-pass-requires-clause-fresh : goal.leave-pass-requires-clause-fresh
-leave-pass-requires-clause-fresh c =
+pub leave-pass-requires : goal.leave-pass-requires
+leave-pass-requires c =
     let m = c.requires.may in
     let looked = subst (λ b. HasLooked (rows_on b) (rows_on c.look.new.self)) c.into_parts-bench.ensures.bench c.look.ensures.looked in
     let have = c.let_lent_leave.ensures.left m.0 _ _ m.1 (all_may_leave c.args.desk m.2 c.look.new.self looked) in
-    record { actors = have.actors; base = looked.base; is = have.fresh }
-
-pub leave-pass-requires-clause-profile : goal.leave-pass-requires-clause-profile
-leave-pass-requires-clause-profile c = cc
-
-pub leave-pass-requires-clause-sits : goal.leave-pass-requires-clause-sits
-leave-pass-requires-clause-sits c =
-    let m = c.requires.may in
-    let looked = subst (λ b. HasLooked (rows_on b) (rows_on c.look.new.self)) c.into_parts-bench.ensures.bench c.look.ensures.looked in
-    let have = c.let_lent_leave.ensures.left m.0 _ _ m.1 (all_may_leave c.args.desk m.2 c.look.new.self looked) in
-    rw c.into_parts-bench.ensures.member (own_sits c.args.desk m.2 c.look.new.self c.let_lent_leave.new.bench looked have)
+    record {
+      of = c.let_lent_leave.ensures.of;
+      fresh = record { actors = have.actors; base = looked.base; is = have.fresh };
+      profile = cc;
+      sits = rw c.into_parts-bench.ensures.member (own_sits c.args.desk m.2 c.look.new.self c.let_lent_leave.new.bench looked have);
+    }
 
 pub returns-clause-rose : goal.returns-clause-rose
 returns-clause-rose c = λ s p may.

@@ -1,13 +1,10 @@
-use Rattle.std.proofs.Common.{◌∙◌, refl, ap}
-use Rattle.pas_shared.specs.declared.bench_desk.BenchHome.{BenchHome}
-use Rattle.pas_threads.{specs.Lent.home_at, proofs.CrewSits.{crew_sits, crew_may_rise, crew_left}}
+use Rattle.std.proofs.Common.{arith, ◌∙◌, refl, ap}
+use Rattle.pas_threads.proofs.{Common.{BenchHome, home_at}, CrewSits.{crew_sits, crew_may_rise, crew_left}}
 use Rattle.pas_threads.proofs.scavenger.scavenge_seated.Goals as goal
 
 pub sit_down-desk-requires-clause-may : goal.sit_down-desk-requires-clause-may
 sit_down-desk-requires-clause-may g c =
-    let m = c.requires.may in
-    let sits = m.4.stands.stands.sits in
-    (m.0, m.2, m.4.lent, sits.actor, sits.stood)
+    search arith
 
 pub scavenge-requires-clause-may : goal.scavenge-requires-clause-may
 scavenge-requires-clause-may g c =

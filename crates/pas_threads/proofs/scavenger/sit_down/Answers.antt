@@ -1,6 +1,5 @@
 use Rattle.std.proofs.Common.{sym, subst}
-use Rattle.pas_shared.specs.Benches.{rows_on, HasLooked, IsMemberOf}
-use Rattle.pas_threads.proofs.CrewSits.{first_crew, first_tell, first_sits, all_sat}
+use Rattle.pas_threads.proofs.{Common.{rows_on, HasLooked, IsMemberOf}, CrewSits.{first_crew, first_tell, first_sits, all_sat}}
 use Rattle.pas_threads.proofs.scavenger.sit_down.Goals as goal
 
 pub seat_lent-requires-clause-lent : goal.seat_lent-requires-clause-lent

@@ -1,7 +1,5 @@
-use Rattle.std.proofs.Common.{◌≡◌, ℕ, ◌+◌, ◌<◌, ◌∙◌, List, ◌∷◌, length, get_or, true, zero, suc, ap, sym, subst, arith}
-use Rattle.pas_bits.specs.{Masks.is_set, declared.mask.Mask4.Mask4}
-use Rattle.pas_shared.specs.declared.ledger.Ledger.{Ledger}
-use Rattle.pas_threads.{specs.{Settling.{HasBench, HasHeard}, declared.workers.Worker.Worker}, proofs.TakingTurns.heard_still}
+use Rattle.std.proofs.Common.{◌≡◌, ℕ, ◌+◌, ◌<◌, ◌∙◌, List, ◌∷◌, length, get_or, true, suc, ap, sym, subst, arith}
+use Rattle.pas_threads.proofs.{Common.{is_set, Mask4, Ledger, HasBench, HasHeard, Worker}, TakingTurns.heard_still}
 use Rattle.pas_threads.proofs.settling.+hear_all.Goals as goal
 
 pub hear_if-requires-clause-bench : goal.hear_if-requires-clause-bench
@@ -29,13 +27,7 @@ hear_all-requires t c =
 heard_each : (awake : Mask4) (below : ℕ) (ledger : Ledger) (w : Worker) (ws : List Worker) → (is_set awake (below + 1) ≡ true → HasHeard ledger w.bench)
     → ((i k : ℕ) (d : Worker) → i < length ws → k ≡ below + 1 + suc i → is_set awake k ≡ true → HasHeard ledger (get_or ws i d).bench)
     → (i k : ℕ) (d : Worker) → i < length (w ∷ ws) → k ≡ below + suc i → is_set awake k ≡ true → HasHeard ledger (get_or (w ∷ ws) i d).bench
-heard_each awake below ledger w ws here later zero k d lt at on = here (ap (is_set awake) (let is : below + 1 ≡ k = omega (arith, at) in is) ∙ on)
-heard_each awake below ledger w ws here later (suc i) k d lt at on = later i k d (omega (arith, lt)) (omega (arith, at)) on
+heard_each awake below ledger w ws here later i k d lt at on = search arith
 
 pub returns-clause-heard : goal.returns-clause-heard
-returns-clause-heard t c = λ i k d lt at on.
-    let is = c.in-Some.ensures.cases.0 in
-    let new = c.hear_all.new.ledger in
-    subst (λ ws. HasHeard new (get_or ws i d).bench) (sym is) (heard_each c.args.awake c.args.below new c.in-Some.worker.now c.in-Some.others.now
-    (λ on. heard_still c.hear_if.new.ledger new c.hear_all.ensures.saw (c.hear_if.ensures.heard (c.get.ensures ∙ on))) c.hear_all.ensures.heard i k d
-    (omega (arith, lt, ap length is)) at on)
+returns-clause-heard t c = search (arith, heard_each, heard_still)

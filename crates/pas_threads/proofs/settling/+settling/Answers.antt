@@ -1,7 +1,5 @@
-use Rattle.std.proofs.{Common.{All, sym, ◌∙◌, subst, length, ◌≤◌, Option, arith, ap, suc}, lemmas.Option.same_Some}
-use Rattle.pas_shared.specs.{Ledgers.actors_in, Passes.IsPassOf}
-use Rattle.pas_threads.specs.{Settling.{KeeperStandsIn, WorkerStandsIn, IsUp}, Kits.kept_pass, Pairs.IsKeeperOf, declared.keeper.Keeper.Keeper}
-use Rattle.pas_threads.proofs.Closing.{given_back}
+use Rattle.std.proofs.Common.{All, sym, ◌∙◌, subst, length, ◌≤◌, Option, arith, ap, suc}
+use Rattle.pas_threads.proofs.{Common.{same_Some, actors_in, IsPassOf, KeeperStandsIn, WorkerStandsIn, IsUp, kept_pass, IsKeeperOf, Keeper}, Closing.given_back}
 use Rattle.pas_threads.proofs.settling.+settling.Goals as goal
 
 pub settle_with-give_back-requires-clause-last : goal.settle_with-give_back-requires-clause-last

@@ -1,5 +1,5 @@
 use Rattle.std.proofs.Common.{◌+◌, ◌*◌, length}
-use Rattle.pas_threads.specs.Kits.{kept_pass}
+use Rattle.pas_threads.proofs.Common.{kept_pass}
 use Rattle.pas_threads.proofs.settling.+settling.Given as goal
 
 abbrev pub decreases-settle_with : goal.decreases-settle_with

@@ -1,6 +1,5 @@
-use Rattle.std.proofs.{Common.{sym, ◌∙◌, subst}, lemmas.Option.same_Some}
-use Rattle.pas_shared.specs.Ledgers.{so_far}
-use Rattle.pas_threads.{specs.Settling.StandsIn, proofs.Staging.{all_up, stands_with, all_stand}}
+use Rattle.std.proofs.Common.{sym, ◌∙◌, subst}
+use Rattle.pas_threads.proofs.{Common.{same_Some, so_far, StandsIn}, Staging.{all_up, stands_with, all_stand}}
 use Rattle.pas_threads.proofs.settling.settle.Goals as goal
 
 pub settle_with-pass-requires-clause-pass : goal.settle_with-pass-requires-clause-pass

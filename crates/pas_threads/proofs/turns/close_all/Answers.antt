@@ -1,30 +1,28 @@
 use Rattle.std.proofs.Common.{◌≡◌, ◌+◌, ◌-◌, ◌∙◌, true, length, refl, sym, subst, arith, List, ℕ, ◌<◌}
-use Rattle.pas_shared.specs.Ledgers.{so_far}
-use Rattle.pas_answers.specs.Answers.{Progress}
-use Rattle.pas_threads.specs.{Settling.ActorsStand, Closing.{ClosedSo, ClosesNext, MayClose, MayCloseAt}, Sessions.Session}
-use Rattle.pas_threads.{specs.declared.{scavenger.Scavenger.Scavenger, workers.Worker.Worker}, proofs.Closing.{closed_stand, settles_begin, settles_next}}
-use Rattle.pas_threads.proofs.{turns.close_all.Goals.After-close_one, Keepers.most_keepers}
+use Rattle.pas_threads.proofs.{Common.{so_far, Progress, ActorsStand, ClosedSo, ClosesNext, MayClose, Session, Scavenger, Worker}, Closing.closed_stand}
+use Rattle.pas_threads.proofs.{Closing.{settles_next, closes_begin}, turns.close_all.Goals.After-close_one, Keepers.most_keepers, Staging.went_none}
+use Rattle.pas_threads.specs.Closing.{MayCloseAt}
 use Rattle.pas_threads.proofs.turns.close_all.Goals as goal
 
 pub loop-place-init : goal.loop-place-init
-loop-place-init c = record { of = c.requires.of; same = refl; closed = λ s p may. settles_begin may }
+unfolding closes_begin
+loop-place-init c =
+    record { of = c.requires.of; same = refl; closed = λ s p may. record { closing = closes_begin may.rest; went = went_none s may.stood may.stand.nobody } }
 
 -- what an actor that is there needs for its act
 may_at : {region s slot so_far p : _} {old now : List Worker} {i actors : ℕ} → MayClose region s slot old so_far p → length now ≡ length old
     → actors ≡ length old + s.keepers → i < actors → MayCloseAt s i old now
 may_at may many is lt = record { threads = sym may.rest.many; many = many; guarded = may.rest.guarded; there = omega (arith, is, lt, may.rest.many) }
 
-pub close_one-requires-clause-place : goal.close_one-requires-clause-place
-close_one-requires-clause-place c =
-    let may = c.requires.may.2 in
-    let all = c.closing_actors-actors.ensures c.requires.may.0.keepers may.rest.guarded in
-    omega (arith, c.loop-place.auto.threads, c.loop-place-test.true, all, most_keepers c.args.threads.now may.rest.guarded)
-
-pub close_one-requires-clause-so_far : goal.close_one-requires-clause-so_far
-close_one-requires-clause-so_far c =
+pub close_one-requires : goal.close_one-requires
+close_one-requires c =
     let r = c.requires.may in
-    let at = may_at r.2 c.loop-place.auto.threads (c.closing_actors-actors.ensures r.0.keepers r.2.rest.guarded) c.loop-place-test.true in
-    (r.0, c.args.threads.now, r.1, at, (c.loop-place.invariant.closed r.0 r.1 r.2).closing)
+    let all = c.closing_actors-actors.ensures r.0.keepers r.2.rest.guarded in
+    let at = may_at r.2 c.loop-place.auto.threads all c.loop-place-test.true in
+    record {
+      place = omega (arith, c.loop-place.auto.threads, c.loop-place-test.true, all, most_keepers c.args.threads.now r.2.rest.guarded);
+      so_far = (r.0, c.args.threads.now, r.1, at, (c.loop-place.invariant.closed r.0 r.1 r.2).closing);
+    }
 
 -- the actor at this place made its act
 module _ (c : After-close_one) (s : Session) (p : Progress)
@@ -62,5 +60,4 @@ pub returns-clause-closed : goal.returns-clause-closed
 returns-clause-closed c = λ s p may.
     let all = c.closing_actors-actors.ensures s.keepers may.rest.guarded in
     let at : c.loop-place.place ≡ s.threads + s.keepers = omega (arith, c.loop-place-test.false, c.loop-place.auto.place-end, all, may.rest.many) in
-    subst (λ i. ClosedSo c.args.region.now s i c.args.threads.now c.loop-place.threads (so_far c.args.ledger.now) (so_far c.loop-place.ledger) p) at
-    (c.loop-place.invariant.closed s p may)
+    rw at at (c.loop-place.invariant.closed s p may)

@@ -1,8 +1,6 @@
 -- the actors before this place closed, and the ledger is settled
 use Rattle.std.proofs.Common.{◌≡◌}
-use Rattle.pas_answers.specs.Answers.{Progress}
-use Rattle.pas_shared.specs.Ledgers.{IsLedgerOf, so_far}
-use Rattle.pas_threads.specs.{Sessions.Session, Closing.{ClosedSo, MayClose}}
+use Rattle.pas_threads.proofs.Common.{Progress, IsLedgerOf, so_far, Session, ClosedSo, MayClose}
 use Rattle.pas_threads.proofs.turns.close_all.Given as goal
 
 abbrev pub invariant-loop-place : goal.invariant-loop-place

@@ -1,13 +1,10 @@
 use Rattle.std.proofs.Common.{◌≡◌, ◌+◌, ◌-◌, ◌<◌, suc, length, arith}
-use Rattle.pas_threads.{specs.{Sessions.evenly, Pairs.no_more}, proofs.{Closing.{thread_closes, keeper_there, keeper_closes}, Keepers.most_keepers}}
+use Rattle.pas_threads.proofs.{Common.{evenly, no_more}, Closing.{thread_closes, keeper_there, keeper_closes}, Keepers.most_keepers}
 use Rattle.pas_threads.proofs.turns.close_one.Goals as goal
 
 pub stop-requires : goal.stop-requires
 stop-requires c =
-    let r = c.requires.so_far in
-    let i = c.args.place in
-    let here = r.4.each i c.index-workers-place.result (let lt = c.if-place-workers.true in omega (arith, lt, r.3.many)) in
-    record { rests = (r.0.profile, suc i, evenly 0, r.4.came.reached, here.thread.here) }
+    search arith
 
 pub returns-then-place-workers-clause-next : goal.returns-then-place-workers-clause-next
 returns-then-place-workers-clause-next c = λ s old p may so.
@@ -22,8 +19,7 @@ lower_one-requires c =
     let r = c.requires.so_far in
     let may = r.3 in
     let j = c.args.place - length c.args.workers.now in
-    let past = c.if-place-workers.false in
-    let at : c.args.place ≡ r.0.threads + j = omega (arith, past, may.threads, may.many) in
+    let at : c.args.place ≡ r.0.threads + j = omega (arith, c.if-place-workers.false, may.threads, may.many) in
     let has = keeper_there r.4 j c.index-workers-behind.result at (omega (arith, at, may.there)) may.guarded in
     record { stands = (r.0.profile, r.0.threads + suc j, r.4.came.reached, has.0, has.1, has.2) }
 
@@ -32,8 +28,7 @@ returns-clause-next c = λ s old p may so.
     let i = c.args.place in
     let j = i - length c.args.workers.now in
     let d = c.index-workers-behind.result in
-    let past = c.if-place-workers.false in
-    let at : i ≡ s.threads + j = omega (arith, past, may.many, may.threads) in
+    let at : i ≡ s.threads + j = omega (arith, c.if-place-workers.false, may.many, may.threads) in
     let less : j < s.keepers = omega (arith, at, may.there) in
     let has = keeper_there so j d at less may.guarded in
     let one = c.lower_one.ensures.one has.0 has.1 in

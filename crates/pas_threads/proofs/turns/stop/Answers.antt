@@ -1,9 +1,5 @@
-use Rattle.std.proofs.Common.{◌∙◌, [], ◌∷◌, Some, refl, ap, sym, subst}
-use Rattle.pas_cache.specs.Caches.{cached}
-use Rattle.pas_shared.specs.Passes.{IsPassOf}
-use Rattle.pas_trace.specs.Acts.{Ends}
-use Rattle.pas_acts.specs.{AtDesks.{here, ThreadActs}, Turns.RestsAt}
-use Rattle.pas_threads.proofs.Benched.{seated, rose}
+use Rattle.std.proofs.Common.{◌∙◌, Some, refl, ap, sym, subst}
+use Rattle.pas_threads.proofs.{Common.{cached, IsPassOf, RestsAt}, Benched.{seated, rose}}
 use Rattle.pas_threads.proofs.turns.stop.Goals as goal
 
 pub end-requires : goal.end-requires
@@ -19,8 +15,7 @@ returns-clause-stopped c = λ f k later p at.
     let pass = c.desk-desk.result.pass in
     let is = sym c.take.ensures.value ∙ c.in-Some.is ∙ ap Some (sym c.desk-desk.ensures.pass) in
     record {
-      did = rose (λ σ σ'. ThreadActs f k (Ends k ∷ []) [] [] (here σ (cached old.cache) old.out)
-          (here σ' (cached c.end.new.cache) c.end.new.out) later p) pass c.end.new.desk.pass c.into_pass.result is at.has c.into_pass.ensures.pass
+      did = rose _ pass c.end.new.desk.pass c.into_pass.result is at.has c.into_pass.ensures.pass
           (subst (λ r. IsPassOf r c.into_pass.result) (c.end.ensures.home ∙ c.desk-desk.ensures.region) c.into_pass.ensures.of)
           (c.end.ensures.ends f k later p (seated (λ σ. RestsAt f k σ (cached old.cache) old.out later p) pass is at.has at.rests));
       requests = refl;

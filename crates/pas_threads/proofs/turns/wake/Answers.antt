@@ -1,9 +1,5 @@
 use Rattle.std.proofs.Common.{◌≡◌, ◌∙◌, [], ◌∷◌, Some, refl, ap, sym, subst}
-use Rattle.pas_cache.specs.Caches.{cached}
-use Rattle.pas_shared.specs.Passes.{IsPassOf}
-use Rattle.pas_trace.specs.Acts.{Wakes}
-use Rattle.pas_acts.specs.{AtDesks.{here, ThreadActs}, Turns.RestsAt}
-use Rattle.pas_threads.proofs.Benched.{seated, rose}
+use Rattle.pas_threads.proofs.{Common.{cached, IsPassOf, Wakes, here, ThreadActs, RestsAt}, Benched.{seated, rose}}
 use Rattle.pas_threads.proofs.turns.wake.Goals as goal
 
 pub begin-requires : goal.begin-requires

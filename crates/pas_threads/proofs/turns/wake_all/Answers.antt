@@ -1,6 +1,5 @@
 use Rattle.std.proofs.Common.{◌≡◌, ◌+◌, ◌∙◌, suc, true, false, sym}
-use Rattle.pas_bits.specs.Masks.{is_set}
-use Rattle.pas_threads.{specs.Sessions.evenly, proofs.{TakingTurns.{wakes_begin, wakes_go_on, wakes_pass, wakes_end}, turns.wake_all.Goals.then-get}}
+use Rattle.pas_threads.proofs.{Common.{is_set, evenly}, TakingTurns.{wakes_begin, wakes_go_on, wakes_pass, wakes_end}, turns.wake_all.Goals.then-get}
 use Rattle.pas_threads.proofs.turns.wake_all.Goals.{else-get}
 use Rattle.pas_threads.proofs.turns.wake_all.Goals as goal
 

@@ -1,8 +1,6 @@
 -- the threads of the mask before this place read the epoch
 use Rattle.std.proofs.Common.{ℕ}
-use Rattle.pas_profile.specs.declared.profile.Profile.{Profile}
-use Rattle.pas_answers.specs.Answers.{Progress}
-use Rattle.pas_threads.{specs.Sessions.AreResting, proofs.TakingTurns.WokeSoFar}
+use Rattle.pas_threads.proofs.{Common.{Profile, Progress, AreResting}, TakingTurns.WokeSoFar}
 use Rattle.pas_threads.proofs.turns.wake_all.Given as goal
 
 abbrev pub invariant-loop-index : goal.invariant-loop-index

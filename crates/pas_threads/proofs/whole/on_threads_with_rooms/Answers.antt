@@ -1,7 +1,7 @@
-use Rattle.std.proofs.{Common.{length, map, ap, arith}, lemmas.List.length-map}
-use Rattle.pas_trace.{specs.Plans.ops_of, proofs.Keepers.plan_actors}
-use Rattle.pas_acts.proofs.PlanFacts.{plan_valid, plan_phases, plan_operate}
-use Rattle.pas_threads.proofs.StartAndEnd.{session_of, handed, all_of_region, shows, replayed_so}
+use Rattle.std.proofs.Common.{length, map, ap, arith, subst}
+use Rattle.pas_threads.proofs.{Common.{length-map, ops_of, plan_actors, plan_valid, so_far, records_in, HasReplayed}, StartAndEnd.{session_of, handed}}
+use Rattle.pas_threads.proofs.StartAndEnd.{all_of_region, shows}
+use Rattle.pas_acts.proofs.PlanFacts.{plan_phases, plan_operate}
 use Rattle.pas_threads.proofs.whole.on_threads_with_rooms.Goals as goal
 
 pub replay-team-requires-clause-phases : goal.replay-team-requires-clause-phases
@@ -31,7 +31,8 @@ close_settled-requires-clause-passes g c =
 pub returns : goal.returns
 returns g c =
     let start = handed c.args.out.now c.as_slice.result.now c.requires.plan.2 c.requires.kit c.as_slice.ensures c.requires.empty c.requires.room in
-    let replayed = replayed_so c.args.plan.now c.as_slice.result.now c.as_slice.ensures
-    (c.replay-team.ensures.replayed (session_of c.args.plan.now) start.0 start.1) in
+    let handed_so = c.replay-team.ensures.replayed (session_of c.args.plan.now) start.0 start.1 in
+    let replayed = subst (λ ps. HasReplayed c.args.kit.region (session_of c.args.plan.now) (map ops_of ps) (so_far c.replay-team.new.ledger)
+    c.replay-team.result (records_in c.replay-team.new.out)) c.as_slice.ensures handed_so in
     shows {plan = c.args.plan.now} c.passes_of-passes.result.items (plan_valid c.requires.plan.2)
     (plan_operate c.requires.plan.2) c.requires.kit.profile replayed c.passes_of-passes.ensures c.close_settled.ensures

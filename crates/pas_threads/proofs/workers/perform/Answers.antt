@@ -1,6 +1,5 @@
 use Rattle.std.proofs.Common.{◌≡◌, ◌∙◌, ◌+◌, Some, ap, sym}
-use Rattle.pas_shared.specs.declared.bench_desk.BenchHome.{BenchHome}
-use Rattle.pas_threads.{specs.{Pairs.MayDoPhase, Seats.PairSits}, proofs.{Benched.{begins, pair_may, pair_did}, workers.perform.Given.Over}}
+use Rattle.pas_threads.proofs.{Common.{BenchHome, MayDoPhase, PairSits}, Benched.{begins, pair_may, pair_did}, workers.perform.Given.Over}
 use Rattle.pas_threads.proofs.workers.perform.Goals.{After-bench_desk-desk}
 use Rattle.pas_threads.proofs.workers.perform.Goals as goal
 
@@ -25,13 +24,12 @@ rise-bench-requires g c =
     let m = c.requires.may in
     let d = (goal.at.rise-bench-requires g c).After-bench_desk-desk in
     let desk = c.bench_desk-desk.result in
-    let there = c.work.new.keeper.keeper in
     let start = begins desk (has_pass g d) c.take-2.ensures.value (sits g d) m in
     let works = c.work.ensures.works m.profile (m.threads + m.thread) m.later m.more m.progress start in
     let here = ap (λ (h : BenchHome). h.region) c.work.ensures.home ∙ c.bench_desk-desk.ensures.region in
     record {
       may = rw (sym here, c.into_parts-bench.ensures.bench, c.into_parts-bench.ensures.member)
-          (pair_may desk (has_pass g d) c.take-2.ensures.value (sits g d) m c.work.new.desk _ there works c.work.ensures.home);
+          (pair_may desk (has_pass g d) c.take-2.ensures.value (sits g d) m c.work.new.desk _ c.work.new.keeper.keeper works c.work.ensures.home);
     }
 
 pub returns : goal.returns

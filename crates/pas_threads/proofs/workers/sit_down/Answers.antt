@@ -1,6 +1,5 @@
 use Rattle.std.proofs.Common.{◌∙◌, ◌++◌, ◌∷◌, [], ap, sym, subst}
-use Rattle.pas_shared.specs.{Ruled.{rows_of, HasRow}, Ledgers.part_of, Passes.view_of}
-use Rattle.pas_threads.{specs.Seats.keeper_parts, proofs.Benched.{sat, pair_sat, has_seat}}
+use Rattle.pas_threads.proofs.{Common.{rows_of, HasRow, part_of, view_of, keeper_parts}, Benched.{sat, pair_sat, has_seat}}
 use Rattle.pas_threads.proofs.workers.sit_down.Goals as goal
 
 pub returns : goal.returns

@@ -1,6 +1,5 @@
 use Rattle.std.proofs.Common.{◌∙◌, Some, sym, subst}
-use Rattle.pas_shared.specs.Benches.{standing_on, MaySitOn}
-use Rattle.pas_threads.{specs.{Pairs.kept_seated, declared.keeper.Seated.Seated}, proofs.Benched.{lent_at, thread_after, tried_at}}
+use Rattle.pas_threads.proofs.{Common.{standing_on, MaySitOn, kept_seated, Seated}, Benched.{lent_at, thread_after, tried_at}}
 use Rattle.pas_acts.specs.Keepers.{TriesAt}
 use Rattle.pas_threads.proofs.keeper.BesideTriesBenchDesk.try_guarded.Goals as goal
 

@@ -1,8 +1,5 @@
-use Rattle.std.proofs.{Common.{◌+◌, ◌∷◌, Some, length, slice_index, ap, sym, ◌∙◌, subst, arith}, lemmas.Option.same_Some}
-use Rattle.pas_profile.specs.declared.profile.Profile.{Profile}
-use Rattle.pas_trace.{specs.Plans.bounds_of, proofs.Keepers.plan_actors}
-use Rattle.pas_acts.proofs.PlanFacts.{plan_bounds}
-use Rattle.pas_threads.{specs.Kits.AreNew, proofs.StartAndEnd.{all_new, first_taken}}
+use Rattle.std.proofs.Common.{◌+◌, ◌∷◌, Some, length, slice_index, ap, sym, ◌∙◌, subst, arith}
+use Rattle.pas_threads.proofs.{Common.{same_Some, Profile, bounds_of, plan_actors, plan_bounds, AreNew}, StartAndEnd.{all_new, first_taken}}
 use Rattle.pas_shared.proofs.Opened.{fresh_many}
 use Rattle.pas_threads.proofs.kit.SharedKit.made_at.Goals as goal
 
