@@ -1,3 +1,4 @@
 mod BetweenCalls
 mod Besides
 mod Stormed
+mod Walked

@@ -69,18 +69,6 @@ may_begin_alone {d} n spare stood rests room =
     let few : unknown_pages f [] ≤ f.pages = few_below f.pages [] in
     record { view = []; whole = []; stood = stood; met = (rests f [] nothing_yet, omega (arith, few, room)) }
 
--- An actor that has nothing may begin a storm with its empty cache.
-pub may_begin : {d : PlainDesk} {p : PlainPass} {room : ℕ} {c : Cached} (n spare : ℕ) → Opens d p room
-    → ((f : Profile) (v : View) → HasNothing v → AtRest f c v) → n + (profile_of (region_of d)).pages ≤ spare
-    → CanCall (standing_of d) (RestsWithRoom (profile_of (region_of d)) c n spare)
-may_begin n spare opens rests room = may_begin_alone n spare opens.stood rests room
-
--- where there is room for so many events more, there is for fewer
-pub fewer : {σ : Standing} {c : Cached} {n spare : ℕ} (m : ℕ) → m ≤ n
-    → CanCall σ (λ v. AtRest σ.seat.profile c v × (n + unknown_pages σ.seat.profile v ≤ spare))
-    → CanCall σ (λ v. AtRest σ.seat.profile c v × (m + unknown_pages σ.seat.profile v ≤ spare))
-fewer m less can = record { view = can.view; whole = can.whole; stood = can.stood; met = (can.met.0, omega (arith, can.met.1, less)) }
-
 -- once it made them it rests beside the other one
 pub rests_beside : {d d' : PlainDesk} {p : PlainPass} {room : ℕ} {c c' : Cached} → Opens d p room → ((f : Profile) (v : View) → HasNothing v → AtRest f c v)
     → Borrows c c' (standing_of d) (standing_of d') → RestsBeside d' p c'

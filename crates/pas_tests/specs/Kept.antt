@@ -17,12 +17,12 @@ pub record Begins (region : PlainRegion) (own foreign : PlainPass) (pages room :
   pub profile : profile_of region ≡ guarded_region pages
   pub room_of : room_of_pass own ≡ room
 
--- the keeper fits its book, and there is place and room for n guarded requests of a page more
-pub record MayKeep (f : Profile) (book : GuardBook) (out : Records) (n spare : ℕ) (v : View) : Type 0 where
+-- the keeper fits its book, and there is place and room for the guarded requests of a page that it tries still: of so many, so many were tried
+pub record MayKeep (f : Profile) (book : GuardBook) (out : Records) (tried rounds spare : ℕ) (v : View) : Type 0 where
   pub fits : FitsBook f (guards_in book) v
-  pub places : length (guards_in book) + n ≤ size_of_book book
-  pub room : 2 * n + unknown_pages f v ≤ spare
-  pub records : length (records_in out) + (4 * n + owed_by_keeper f (guards_in book) v) ≤ room_of out
+  pub places : 4 * rounds + owed_by_keeper f (guards_in book) v ≤ size_of_book book + 4 * tried
+  pub room : 2 * rounds + unknown_pages f v ≤ spare + 2 * tried
+  pub records : length (records_in out) + (4 * rounds + owed_by_keeper f (guards_in book) v) ≤ room_of out + 4 * tried
 
 -- backed words were looked at
 pub record Looked (desk desk' : Standing) : Type 0 where

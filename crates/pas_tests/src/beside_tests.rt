@@ -1,18 +1,17 @@
 //! An actor stops its cache or refills a class while another one frees or asks for blocks between its steps.
-ghost use Rattle.std.specs.Prelude.{◌≡◌, ◌<◌, [], IfOk};
+ghost use Rattle.std.specs.Prelude.{◌≡◌, ◌<◌, []};
 ghost use Rattle.pas_steps.specs.{Lists.Whole, States.profile_of as the_profile_of, Views.View};
 ghost use Rattle.pas_cache.specs.Caches.{cached};
 ghost use Rattle.pas_plain.specs.{Plain.profile_of, Seats.{region_of, Opens}, Storms.StormStands};
 ghost use Rattle.pas_tests.specs.Seated.{RestsBeside, two_threads};
 
-use crate::seating::plain_profile;
+use crate::seating::{cache_for, closed, plain_profile, seat_for};
 use pas_cache::ThreadCache;
-use pas_plain::{Intruder, PlainDesk, PlainPass, PlainRegion, beside, close};
+use pas_plain::{Intruder, PlainDesk, PlainPass, PlainRegion, beside};
 use pas_profile::*;
 use pas_steps::{Desk, State};
 use pas_trials::{Borrower, Flusher, borrow_many, fill};
-use pas_utility::Utility;
-use std::alloc::{AllocError, Global};
+use std::alloc::Global;
 use std::test::Fail;
 
 /// The first block of page 1.
@@ -80,14 +79,6 @@ fn refill_in_a_storm(desk: PlainDesk, foreign: PlainPass, intruder: Borrower) ->
     }
 }
 
-/// The region is closed with both passes.
-fn closed(alloc: Global, calm: Calm) -> Result<State, AllocError>
-    requires storm { (v : View) × (l : Whole) × StormStands calm.region calm.own calm.foreign v l }
-    ensures { IfOk result (λ state. the_profile_of state ≡ profile_of calm.region) }
-{
-    Ok(close(calm.region, vec![in alloc; calm.own, calm.foreign]?))
-}
-
 /// The offered pages of this class, the parked pages, the hinted pages, and the free words of page 1.
 fn words_of(state: &State, class: u16) -> [u64; 7]
     requires profile { the_profile_of state.now ≡ two_threads 1 }
@@ -108,12 +99,9 @@ fn words_of(state: &State, class: u16) -> [u64; 7]
 /// region then.
 fn refill_beside_requests(alloc: Global, first: u64, last: u64) -> Result<[u64; 7], Fail> {
     let (desk, foreign) = beside(alloc, plain_profile(1), 5000)?;
-    let mut utility = Utility::try_new(alloc, desk.profile(), &[0, 5000, 5000])?;
-    let Some(seat) = utility.cache_seat(2) else {
-        return Err(NoMemory.into());
-    };
+    let seat = seat_for(alloc, plain_profile(1), 2)?;
     let calm = refill_in_a_storm(desk, foreign, Borrower::new(seat, first, last));
-    let state = closed(alloc, calm)?;
+    let state = closed(alloc, calm.region, calm.own, calm.foreign)?;
     Ok(words_of(&state, CLASS as u16))
 }
 
@@ -121,15 +109,11 @@ fn refill_beside_requests(alloc: Global, first: u64, last: u64) -> Result<[u64; 
 /// of actor 1, and words of the region.
 fn park_beside_a_free(alloc: Global, at: u64) -> Result<(u64, [u64; 7]), Fail> {
     let (mut desk, foreign) = beside(alloc, plain_profile(1), 100)?;
-    let mut utility = Utility::try_new(alloc, desk.profile(), &[0, 100, 100])?;
-    let Some(seat) = utility.cache_seat(1) else {
-        return Err(NoMemory.into());
-    };
-    let mut cache = ThreadCache::new(seat);
+    let mut cache = cache_for(alloc, plain_profile(1))?;
     borrow_many(&mut desk, &mut cache, 8);
     let calm = stop_in_a_storm(desk, foreign, &mut cache, Flusher { at, name: NAME });
     let steps = calm.steps;
-    let state = closed(alloc, calm)?;
+    let state = closed(alloc, calm.region, calm.own, calm.foreign)?;
     Ok((steps, words_of(&state, 15)))
 }
 

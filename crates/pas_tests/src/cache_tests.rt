@@ -4,14 +4,13 @@ ghost use Rattle.pas_bits.specs.Bits.{has_bit};
 ghost use Rattle.pas_steps.specs.{Desks.CanCall, Unknown.unknown_pages};
 ghost use Rattle.pas_cache.specs.Caches.{cached, AtRest};
 
-use crate::seating::{large_profile, plain_profile};
+use crate::seating::{cache_for, large_profile, plain_profile};
 use pas_cache::ThreadCache;
 use pas_plain::beside;
 use pas_profile::classes::class_size;
 use pas_profile::*;
 use pas_steps::Desk;
 use pas_trials::{borrow_two, words_of_first};
-use pas_utility::Utility;
 use std::test::Fail;
 
 /// The block of 32 bytes at this address of page 1.
@@ -64,11 +63,7 @@ fn are_of_two_blocks(shown: &[Event]) -> bool {
 #[test]
 fn a_cache_gives_slots_of_one_page_and_leaves_it_offered(rt: HostRuntime) -> Result<(), Fail> {
     let (mut desk, _) = beside(rt.alloc(), plain_profile(2), 16)?;
-    let mut utility = Utility::try_new(rt.alloc(), desk.profile(), &[0, 16, 16])?;
-    let Some(seat) = utility.cache_seat(1) else {
-        return Err(NoMemory.into());
-    };
-    let mut cache = ThreadCache::new(seat);
+    let mut cache = cache_for(rt.alloc(), plain_profile(2))?;
     let blocks = borrow_two(&mut desk, &mut cache, 24);
     assert!(rt; are_first_two(&blocks));
     assert!(rt; are_of_two_blocks(desk.shown()));
@@ -134,11 +129,7 @@ fn serves_each_class<D: Desk>(desk: &mut D, cache: &mut ThreadCache) -> bool
 #[test]
 fn a_region_of_twenty_classes_serves_each(rt: HostRuntime) -> Result<(), Fail> {
     let (mut desk, _) = beside(rt.alloc(), large_profile(), 17_000)?;
-    let mut utility = Utility::try_new(rt.alloc(), desk.profile(), &[0, 17_000, 17_000])?;
-    let Some(seat) = utility.cache_seat(1) else {
-        return Err(NoMemory.into());
-    };
-    let mut cache = ThreadCache::new(seat);
+    let mut cache = cache_for(rt.alloc(), large_profile())?;
     assert!(rt; serves_each_class(&mut desk, &mut cache));
     Ok(())
 }

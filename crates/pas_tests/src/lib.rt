@@ -86,6 +86,8 @@ mod turn_tests;
 #[cfg(test)]
 mod visiting;
 #[cfg(test)]
+mod walking;
+#[cfg(test)]
 mod weaving;
 #[cfg(test)]
 mod words;

@@ -1,12 +1,10 @@
 //! Ends by a room, at a plain region.
 
-use crate::seating::plain_profile;
-use pas_cache::ThreadCache;
+use crate::seating::{cache_for, plain_profile};
 use pas_plain::beside;
 use pas_profile::*;
 use pas_steps::Desk;
 use pas_trials::borrow_and_end;
-use pas_utility::Utility;
 use std::test::Fail;
 
 /// The first block of page 1.
@@ -50,11 +48,7 @@ pub fn are_of_three_ends(shown: &[Event]) -> bool {
 #[test]
 fn a_block_ends_by_its_own_room_alone(rt: HostRuntime) -> Result<(), Fail> {
     let (mut desk, _) = beside(rt.alloc(), plain_profile(1), 16)?;
-    let mut utility = Utility::try_new(rt.alloc(), desk.profile(), &[0, 16, 16])?;
-    let Some(seat) = utility.cache_seat(1) else {
-        return Err(NoMemory.into());
-    };
-    let mut cache = ThreadCache::new(seat);
+    let mut cache = cache_for(rt.alloc(), plain_profile(1))?;
     let (block, read) = borrow_and_end(&mut desk, &mut cache);
     assert!(rt; are_of_one_block(&block, read));
     assert!(rt; are_of_three_ends(desk.shown()));

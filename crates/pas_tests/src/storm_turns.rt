@@ -6,11 +6,11 @@ ghost use Rattle.pas_plain.specs.{Plain.{profile_of, room_of_pass, forgotten_by,
 ghost use Rattle.pas_trials.specs.{Filling.Steps, Storms.cache_of};
 ghost use Rattle.pas_tests.specs.Seated.{RestsBeside, stormy};
 
-use crate::seating::stormy_profile;
+use crate::seating::{closed, stormy_profile};
 use crate::weaving::{Timed, live_after, weave};
 use arrayvec::ArrayVec;
 use pas_machine::Machine;
-use pas_plain::{PlainDesk, PlainPass, PlainRegion, beside, close};
+use pas_plain::{PlainDesk, PlainPass, PlainRegion, beside};
 use pas_profile::{Event, NoMemory, Word};
 use pas_steps::{Desk, State};
 use pas_trials::{Errand, Fault, Guest, Hands, MOST_WATCHED, Moment, Visit, Watched, judge};
@@ -188,19 +188,6 @@ fn events_of(alloc: Global, calm: &Calm) -> Result<Vec<Event>, AllocError> {
     let own = own_events(alloc, calm.own.shown(), calm.begun, calm.counts.as_slice())?;
     let foreign = foreign_events(alloc, calm.foreign.shown(), calm.guest.moments())?;
     weave(alloc, &own, &foreign)
-}
-
-/// The region is closed with both passes.
-fn closed(
-    alloc: Global,
-    region: PlainRegion,
-    own: PlainPass,
-    foreign: PlainPass,
-) -> Result<State, AllocError>
-    requires storm { (v : View) × (l : Whole) × StormStands region own foreign v l }
-    ensures { IfOk result (λ state. the_profile_of state ≡ profile_of region) }
-{
-    Ok(close(region, vec![in alloc; own, foreign]?))
 }
 
 /// Changes a word of the region.

@@ -7,11 +7,11 @@ ghost use Rattle.pas_records.specs.Rooms.{records_in, room_of};
 ghost use Rattle.pas_tests.specs.Kept.{guarded_region, Begins};
 
 use crate::keeping::keep;
+use crate::seating::closed;
 use pas_guard::GuardBook;
-use pas_plain::{PlainPass, PlainRegion, beside, close};
+use pas_plain::{PlainPass, PlainRegion, beside};
 use pas_profile::{Block, Event, NoMemory, Profile};
 use pas_records::{Record, Records, Said};
-use pas_steps::State;
 use pas_trials::{Fault, Guest, Hands, Visit, judge};
 use pas_utility::Utility;
 use std::alloc::{AllocError, Global};
@@ -21,6 +21,9 @@ use std::test::Fail;
 const PAGES: u32 = 12;
 
 const ROUNDS: u32 = 4;
+
+/// The book has places for so many guards, more than can be up.
+const PLACES: u32 = 40;
 
 /// Each actor has room for so many events.
 const EVENTS: u32 = 4000;
@@ -152,7 +155,7 @@ fn ride(
 ) -> Calm
     requires begins { Begins region own foreign 12 4000 }
     requires empty { guards_in book.old ≡ [] }
-    requires book { size_of_book book.old ≡ 4 }
+    requires book { size_of_book book.old ≡ 40 }
     requires none { records_in out.old ≡ [] }
     requires room { room_of out.old ≡ 200 }
     ensures storm { (v : View) × (l : Whole) × StormStands result.region result.own result.foreign v l }
@@ -169,23 +172,11 @@ fn ride(
     }
 }
 
-/// The region is closed with both passes.
-fn closed(
-    alloc: Global,
-    region: PlainRegion,
-    own: PlainPass,
-    foreign: PlainPass,
-) -> Result<State, AllocError>
-    requires storm { (v : View) × (l : Whole) × StormStands region own foreign v l }
-{
-    Ok(close(region, vec![in alloc; own, foreign]?))
-}
-
 /// A keeper, actor 1, raises and lowers guards while actor 2 makes its visits. Then the region is judged.
 pub fn storm(alloc: Global, visits: Vec<Visit>) -> Result<Found, Fail> {
     let (region, own, foreign) = opened(alloc)?;
     let guest = guest(alloc, visits)?;
-    let mut book = GuardBook::try_new(alloc, ROUNDS)?;
+    let mut book = GuardBook::try_new(alloc, PLACES)?;
     let mut out = Records::try_new(alloc, 200)?;
     let calm = ride(region, own, foreign, guest, &mut book, &mut out);
     let live = live_after(alloc, calm.own.shown(), calm.foreign.shown())?;

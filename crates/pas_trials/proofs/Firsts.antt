@@ -1,12 +1,13 @@
 -- The first call of an actor, what a refill gave, and its stop.
-use Rattle.std.proofs.Common.{◌≡◌, ◌-◌, [], length, reverse, inr, refl, ap, sym, ◌∙◌, subst, arith, ℕ, ◌++◌, List}
-use Rattle.pas_profile.specs.declared.{directory.Directory.Directory, profile.Profile.Profile}
-use Rattle.pas_steps.specs.{Events.events_of, Views.View, Desks.CanCall, Noted.{events_noted, room_of_notes}, Agreement.Agreed, declared.step.Made.Made}
-use Rattle.pas_steps.proofs.Nothing.{nothing_yet}
+use Rattle.std.proofs.Common.{◌≡◌, ◌-◌, Bool, [], length, reverse, Ok, inr, refl, ap, sym, ◌∙◌, subst, arith, ℕ, ◌++◌, List}
+use Rattle.pas_profile.specs.{Profiles.IsDirectoryOf, declared.{directory.Directory.Directory, profile.Profile.Profile}}
+use Rattle.pas_steps.specs.{Events.events_of, Lists.Whole, Views.View, Desks.{CanCall, Standing}, Noted.{events_noted, room_of_notes}, declared.step.Made.Made}
+use Rattle.pas_steps.proofs.{Adding.{adds_call, can_call}, Nothing.nothing_yet}
 use Rattle.pas_search.specs.Searches.{MaySearch, SearchRoom}
 use Rattle.pas_shared.specs.{Passes.{view_of, seat_of, standing_of}, declared.{pass.SharedPass.SharedPass, desk.SharedDesk.SharedDesk}}
-use Rattle.pas_segregated.specs.{Refills.{Filling, exclusive_slots, GivesSlots}, Stops.{class_directory, directory_of, MayStopAt, MayStop}}
+use Rattle.pas_segregated.specs.{Refills.{Filling, exclusive_slots, GivesSlots, Refills}, Stops.{class_directory, directory_of, MayStopAt}}
 use Rattle.pas_segregated.specs.declared.slots.Slots.{Slots}
+use Rattle.pas_trials.specs.Filling.{Steps}
 
 -- ==== The first call of an actor.
 
@@ -33,12 +34,18 @@ pub given_directory : {f : Profile} {heap class : ℕ} {searched after : List Ma
 given_directory {heap = heap} {slots = slots} gives = ap (λ h. class_directory h slots.class) (ap (λ d. d.heap) gives.home) ∙ ap (class_directory heap) gives.class_is
 
 -- Slots that a refill gave may be stopped where their directory is that of the refill.
-pub may_stop_where : {fill : Filling} {f : Profile} {d : Directory} {searched after : List Made} {slots : Slots} → d ≡ fill.directory
-    → GivesSlots fill f searched after slots → (v : View) → MaySearch fill.directory v → Agreed f v (after ++ searched)
-    → MayStopAt d slots ((after ++ searched) ++ v)
-may_stop_where same gives v may agreed = rw same (gives.gets.from v may agreed).may_stop
+module _ {fill : Filling} {tells : Bool} {σ σ1 : Standing} {slots : Slots} {d : Directory} (same : d ≡ fill.directory) (r : Refills fill tells σ σ1
+    (Ok slots)) where
+  stops_there : (v : View) (l : Whole) → σ.stands v l → MaySearch fill.directory v → MayStopAt d slots ((r.after ++ r.searched) ++ v)
+  stops_there v l stood may = rw same (r.outcome.gets.from v may (r.adds.agreed v l stood may)).may_stop
 
--- Slots that a refill gave may be stopped.
-pub may_stop_then : {f : Profile} {heap class : ℕ} {searched after : List Made} {slots : Slots} → GivesSlots (exclusive_slots heap class) f searched after slots
-    → (v : View) → MaySearch (class_directory heap class) v → Agreed f v (after ++ searched) → MayStop slots ((after ++ searched) ++ v)
-may_stop_then gives v may agreed = may_stop_where (given_directory gives) gives v may agreed
+  pub given_of_region : IsDirectoryOf σ.seat.profile fill.directory → IsDirectoryOf σ1.seat.profile d
+  given_of_region of = rw (r.adds.seat_is, same) of
+
+  pub can_stop : {n spare : ℕ} → CanCall σ (SearchRoom σ.seat.profile fill.directory n spare) → CanCall σ1 (MayStopAt d slots)
+  can_stop can =
+      let may : CanCall σ (MaySearch fill.directory) = record { view = can.view; whole = can.whole; stood = can.stood; met = can.met.may } in
+      can_call {C = MaySearch fill.directory} {D = MayStopAt d slots} r.adds may stops_there
+
+  pub with_stop : {σ2 : Standing} → Steps σ1 σ2 (MayStopAt d slots) → Steps σ σ2 (MaySearch fill.directory)
+  with_stop stopped = record { steps = stopped.steps ++ (r.after ++ r.searched); adds = adds_call r.adds stopped.adds stops_there }

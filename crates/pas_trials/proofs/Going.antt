@@ -1,5 +1,5 @@
 -- Errands of an actor that is at rest with its cache, and what an actor that has nothing did.
-use Rattle.std.proofs.Common.{◌≡◌, ℕ, zero, suc, ◌≤◌, List, [], ◌∷◌, ◌++◌, ◌==◌, Bool, if◌then◌else◌, Option, None, Result, refl, ap, sym, ◌∙◌, subst, arith}
+use Rattle.std.proofs.Common.{◌≡◌, ℕ, zero, suc, ◌≤◌, List, [], ◌∷◌, ◌++◌, Bool, Option, None, Result, refl, ap, sym, ◌∙◌, subst, arith}
 use Rattle.pas_profile.specs.declared.{event.NoRoom.NoRoom, name.Block.Block, profile.Profile.Profile, entry.Entry.Entry}
 use Rattle.pas_steps.specs.{Calls.Calls, Clear.HasNothing, Kinds.Ticking, Unknown.{unknown_here, unknown_below}, Views.{View, known_deed}, Desks.Standing}
 use Rattle.pas_steps.{specs.{Desks.{Seat, CanCall, Makes, made}, declared.step.{Made.Made, Step.TheVariants.Tick}}, proofs.{Adding.adds_under, Calls.does_idly}}
@@ -8,21 +8,23 @@ use Rattle.pas_free_log.specs.{Flushes.Flushes, declared.noting.EndedRun.EndedRu
 use Rattle.pas_cache.specs.{Caches.{Cached, AtRest}, Serves.Wanted, Calls.{MayAllocate, Allocates, MayAllocatePages, AllocatesPages, StopsCache, Rests}}
 use Rattle.pas_cache.proofs.{Budget.log_kept, FlushesAndFrees.rests_empty, Resting.rests_kept}
 use Rattle.pas_plain.specs.Storms.{Acts}
-use Rattle.pas_trials.specs.{Borrowing.Borrows, SharedStorms.IsWorking}
+use Rattle.pas_trials.specs.{Borrowing.{Borrows, RestsWithRoom}, SharedStorms.IsWorking}
 
 -- ==== Errands of an actor that is at rest with its cache.
 
 -- ---- room
-at_most_one : (t : Bool) → (if t then 1 else 0) ≤ 1
-at_most_one t = grind arith
-
 few_here : (deed : ℕ) → unknown_here deed ≤ 1
-few_here deed = at_most_one (deed == 0)
+few_here deed = grind arith
 
 -- There are no more unknown pages below a bound than pages.
 pub few_below : (n : ℕ) (v : View) → unknown_below n v ≤ n
 few_below zero v = omega arith
 few_below (suc n) v = let here = few_here (known_deed v (suc n)) in let below = few_below n v in omega (arith, here, below)
+
+-- Where there is room for so many events more, there is for fewer.
+pub fewer : {σ : Standing} {c : Cached} {n spare : ℕ} (m : ℕ) → m ≤ n → CanCall σ (RestsWithRoom σ.seat.profile c n spare)
+    → CanCall σ (RestsWithRoom σ.seat.profile c m spare)
+fewer m less can = record { view = can.view; whole = can.whole; stood = can.stood; met = (can.met.0, omega (arith, can.met.1, less)) }
 
 -- An actor at rest with enough room may allocate a slot.
 pub room_for_slot : {σ : Standing} {c : Cached} {spare : ℕ} → 70 ≤ spare → σ.seat.profile.pages ≤ 30 → CanCall σ (AtRest σ.seat.profile c)

@@ -92,18 +92,11 @@ freed region d d' gift pass past none actor ends pass_is of earlier own =
 -- ==== The one list: all steps of the one, and behind them all of the other.
 
 -- ---- a list of one actor
-abbrev IsNone : View → Type 0
-IsNone [] = Unit {0}
-IsNone (m ∷ v) = ⊥
-
 own_part : (t : Triple) (l : Whole) → part t.actor (t ∷ l) ≡ t.made ∷ part t.actor l
 own_part t l = part_of_own t.actor (t.made ∷ []) l
 
 other_part : (t : Triple) (l : Whole) (j : ℕ) → t.actor ≢ j → part j (t ∷ l) ≡ part j l
 other_part t l j ne = part_of_others j t.actor (t.made ∷ []) l ne
-
-some_step : (m : Made) (v w : View) → w ≡ m ∷ v → w ≡ [] → ⊥
-some_step m v w is none = subst (λ (u : View). IsNone u) (sym none ∙ is) tt
 
 -- Where no other actor made a step, the list is the one actor's part.
 lone : (k : ℕ) (l : Whole) → ((j : ℕ) → j ≢ k → part j l ≡ []) → l ≡ triples k (part k l)
@@ -114,7 +107,7 @@ lone k (t ∷ l) none = ⊎_elim
     let its : part k (t ∷ l) ≡ t.made ∷ part k l = subst (λ (n : ℕ). part n (t ∷ l) ≡ t.made ∷ part n l) same (own_part t l) in
     let front : t ∷ l ≡ triple k t.made ∷ triples k (part k l) = λ i. triple (same i) t.made ∷ rest i in
     front ∙ ap (triples k) (sym its))
-    (λ (ne : t.actor ≢ k). absurd (some_step t.made (part t.actor l) (part t.actor (t ∷ l)) (own_part t l) (none t.actor ne)))
+    (λ (ne : t.actor ≢ k). cc (own_part t l, none t.actor ne))
     (cases_eq t.actor k)
 
 -- ---- no one else made a step
@@ -124,22 +117,16 @@ nobody f (t ∷ l) j legal beyond = other_part t l j (λ same. omega (arith, leg
 
 left_none : (v w : View) → v ++ w ≡ [] → v ≡ []
 left_none [] w none = refl
-left_none (m ∷ v) w none = absurd (some_step m (v ++ w) (m ∷ v ++ w) refl none)
+left_none (m ∷ v) w none = cc
 
 right_none : (v w : View) → v ++ w ≡ [] → w ≡ []
 right_none v w none = ap (λ (u : View). u ++ w) (sym (left_none v w none)) ∙ none
 
-but_one : (P : ℕ → Type 0) → P 0 → P 2 → ((j : ℕ) → 2 < j → P j) → (j : ℕ) → j ≢ 1 → P j
-but_one P none two more zero ne = none
-but_one P none two more (suc zero) ne = absurd (ne refl)
-but_one P none two more (suc (suc zero)) ne = two
-but_one P none two more (suc (suc (suc j))) ne = more (suc (suc (suc j))) (omega arith)
-
-but_two : (P : ℕ → Type 0) → P 0 → P 1 → ((j : ℕ) → 2 < j → P j) → (j : ℕ) → j ≢ 2 → P j
-but_two P none one more zero ne = none
-but_two P none one more (suc zero) ne = one
-but_two P none one more (suc (suc zero)) ne = absurd (ne refl)
-but_two P none one more (suc (suc (suc j))) ne = more (suc (suc (suc j))) (omega arith)
+others : (k : ℕ) (P : ℕ → Type 0) → P 0 → (1 ≢ k → P 1) → (2 ≢ k → P 2) → ((j : ℕ) → 2 < j → P j) → (j : ℕ) → j ≢ k → P j
+others k P none one two more zero ne = none
+others k P none one two more (suc zero) ne = one ne
+others k P none one two more (suc (suc zero)) ne = two ne
+others k P none one two more (suc (suc (suc j))) ne = more (suc (suc (suc j))) (omega arith)
 
 -- ---- its events
 event_both : (o : Option Event) (es more : List Event) → with_event o (es ++ more) ≡ with_event o es ++ more
@@ -200,8 +187,10 @@ handed_over f l first second v w block name d before epoch outcome valid legal t
     let one_whole : (part 1 later ++ part 1 mid) ++ v ≡ v = cc (append_assoc (part 1 later) (part 1 mid) v, one_after, cut 1, one) in
     let one_later : part 1 later ≡ [] = left_none (part 1 later) (part 1 mid) (append_cancel_right (part 1 later ++ part 1 mid) [] v one_whole) in
     let one_second : part 1 second ≡ v = cc (one_later, cut 1, one) in
-    let second_is : second ≡ triples 1 v = lone 1 second (but_one (λ j. part j second ≡ []) (right_none _ _ zero_cut) fresh (λ j beyond. right_none _ _ (more_cut j beyond))) ∙ ap (triples 1) one_second in
-    let later_is : later ≡ triples 2 w = lone 2 later (but_two (λ j. part j later ≡ []) (left_none _ _ zero_cut) one_later (λ j beyond. left_none _ _ (more_cut j beyond))) ∙ ap (triples 2) two_later in
+    let second_is : second ≡ triples 1 v = lone 1 second (others 1 (λ j. part j second ≡ []) (right_none _ _ zero_cut) (λ ne. absurd (ne refl))
+    (λ ne. fresh) (λ j beyond. right_none _ _ (more_cut j beyond))) ∙ ap (triples 1) one_second in
+    let later_is : later ≡ triples 2 w = lone 2 later (others 2 (λ j. part j later ≡ []) (left_none _ _ zero_cut) (λ ne. one_later) (λ ne. absurd (ne refl))
+    (λ j beyond. left_none _ _ (more_cut j beyond))) ∙ ap (triples 2) two_later in
     let whole_is : l ≡ triples 2 w ++ second = taken.1 ∙ ap (λ (x : Whole). x ++ second) later_is in
     let first_events : visible second ≡ Event.Give 1 block ∷ before = cc (second_is, append-nil (triples 1 v), shown_lone 1 v [] refl, append-nil (events_of 1 v), gave) in
     let all : visible l ≡ event_for 2 epoch (entry_of block.name) outcome ∷ Event.Give 1 block ∷ before = cc (whole_is, shown_lone 2 w second fresh, ended, name_is, first_events) in

@@ -22,4 +22,4 @@ alloc-second-requires-clause-can c =
 pub close_both-requires : goal.close_both-requires
 close_both-requires c =
     let w = waits_first c.in_ok-desk.ensures.opens (steps_of c.alloc-first.ensures.allocates) (may_search _) in let e = c.change-desk.ensures in
-    beside_second w e.region e.seated e.risen (steps_of c.alloc-second.ensures.allocates) (may_search _)
+    beside_second w _ e.region e.seated e.risen (steps_of c.alloc-second.ensures.allocates) (may_search _)

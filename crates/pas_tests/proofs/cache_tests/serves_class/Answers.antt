@@ -2,7 +2,7 @@ use Rattle.std.proofs.Common.{◌≡◌, ◌+◌, ◌≤◌, false, sym, ◌∙�
 use Rattle.pas_bits.specs.Bits.{has_bit}
 use Rattle.pas_profile.proofs.Sizes.{class_size_le}
 use Rattle.pas_steps.specs.Desks.{Seat}
-use Rattle.pas_tests.proofs.Stormed.{fewer}
+use Rattle.pas_trials.proofs.Going.{fewer}
 use Rattle.pas_tests.proofs.cache_tests.serves_class.Goals as goal
 
 pub borrow_two-before-requires-clause-size : goal.borrow_two-before-requires-clause-size

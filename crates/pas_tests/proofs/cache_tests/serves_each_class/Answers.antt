@@ -1,7 +1,7 @@
-use Rattle.std.proofs.Common.{◌≡◌, ◌+◌, ◌-◌, ◌*◌, ◌≤◌, false, sym, subst, arith}
+use Rattle.std.proofs.Common.{◌≡◌, ◌+◌, ◌-◌, ◌*◌, false, sym, subst, arith}
 use Rattle.pas_bits.specs.Bits.{has_bit}
 use Rattle.pas_steps.specs.Desks.{Seat}
-use Rattle.pas_tests.proofs.Stormed.{fewer}
+use Rattle.pas_trials.proofs.Going.{fewer}
 use Rattle.pas_tests.proofs.cache_tests.serves_each_class.Goals as goal
 
 pub loop-class-init : goal.loop-class-init

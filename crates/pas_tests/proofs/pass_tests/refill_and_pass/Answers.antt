@@ -25,4 +25,4 @@ age_and_pass-requires-clause-room c =
 pub close_both-requires : goal.close_both-requires
 close_both-requires c =
     let w = waits_first c.in_ok-desk.ensures.opens c.fill.ensures.steps (may_search _) in let e = c.change-desk.ensures in
-    beside_second w e.region e.seated e.risen c.age_and_pass.ensures.steps nothing_yet
+    beside_second w _ e.region e.seated e.risen c.age_and_pass.ensures.steps nothing_yet

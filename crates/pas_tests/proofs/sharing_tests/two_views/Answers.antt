@@ -13,4 +13,4 @@ fill_shared-second-requires-clause-can c =
 pub close_both-requires : goal.close_both-requires
 close_both-requires c =
     let w = waits_first c.in_ok-desk.ensures.opens c.fill_shared-first.ensures.steps (may_search _) in let e = c.change-desk.ensures in
-    beside_second w e.region e.seated e.risen c.fill_shared-second.ensures.steps (may_search _)
+    beside_second w _ e.region e.seated e.risen c.fill_shared-second.ensures.steps (may_search _)

@@ -23,4 +23,4 @@ close_both-requires c =
     let b = c.visit.ensures.brings in
     let taken : Steps (standing_of c.in_ok-desk.desk) (standing_of c.visit.new.desk) AnyView = record { steps = b.steps; adds = b.calls.adds } in
     let w = waits_first c.in_ok-desk.ensures.opens taken tt in let e = c.change-desk.ensures in
-    beside_second w e.region e.seated e.risen c.fill-filled.ensures.steps (may_search _)
+    beside_second w _ e.region e.seated e.risen c.fill-filled.ensures.steps (may_search _)

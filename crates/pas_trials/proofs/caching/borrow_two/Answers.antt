@@ -1,8 +1,8 @@
-use Rattle.std.proofs.Common.{ℕ, ◌+◌, ◌∙◌, ap, arith}
+use Rattle.std.proofs.Common.{ℕ, ◌+◌, ◌∙◌, ◌≡◌, [], ap, arith, length}
 use Rattle.pas_steps.specs.Desks.{CanCall}
-use Rattle.pas_cache.{specs.Caches.{Cached, cached}, proofs.{Budget.{HasBudget, may_allocate, budget_left}, Routes.is_small}}
-use Rattle.pas_trials.proofs.Borrowed.{admitted, budget_call, rest_call, budget_as, call_budget, log_after, small_turn, empty_few, one_logged, freed_call}
-use Rattle.pas_trials.proofs.{Borrowed.{freed_budget, stop_room, stopped_call, stopped_budget}, caching.borrow_two.{Given.Over, Goals.After-alloc-second}}
+use Rattle.pas_cache.{specs.Caches.{Cached, cached}, proofs.{Budget.{HasBudget, may_allocate}, Routes.is_small}}
+use Rattle.pas_trials.proofs.Borrowed.{admitted, budget_call, rest_call, call_budget, asked_left, small_turn, empty_few, freed_one, freed_budget}
+use Rattle.pas_trials.proofs.{Borrowed.stopped_budget, Going.slot_asked, caching.borrow_two.{Given.Over, Goals.{After-alloc-second, After-stop}}}
 use Rattle.pas_trials.proofs.caching.borrow_two.Goals as goal
 
 -- what the two requests leave
@@ -12,8 +12,13 @@ after_second : (g : Over) (c : After-alloc-second g) (n : ℕ)
     → CanCall (g.D.Desk.standing c.alloc-second.new.desk)
     (HasBudget (g.D.Desk.standing c.alloc-second.new.desk).seat.profile (cached c.alloc-second.new.self) (n + 1) (g.D.Desk.spare_of c.alloc-second.new.desk))
 after_second g c n can =
-    let first = budget_left (n + 3) c.alloc-first.ensures.allocates (budget_as (n + 3 + 2) (omega arith) can) (g.met.D.Desk.spares c.args.desk.now) (g.met.D.Desk.spares c.alloc-first.new.desk) in
-    budget_left (n + 1) c.alloc-second.ensures.allocates (budget_as (n + 1 + 2) (omega arith) first) (g.met.D.Desk.spares c.alloc-first.new.desk) (g.met.D.Desk.spares c.alloc-second.new.desk)
+    let first = asked_left (n + 3) (omega arith) c.alloc-first.ensures.allocates can (g.met.D.Desk.spares c.args.desk.now)
+    (g.met.D.Desk.spares c.alloc-first.new.desk) in
+    asked_left (n + 1) (omega arith) c.alloc-second.ensures.allocates first (g.met.D.Desk.spares c.alloc-first.new.desk)
+    (g.met.D.Desk.spares c.alloc-second.new.desk)
+
+none_logged : (g : Over) (c : After-alloc-second g) → (cached c.alloc-second.new.self).log ≡ []
+none_logged g c = (slot_asked c.alloc-second.ensures.allocates).log ∙ ((slot_asked c.alloc-first.ensures.allocates).log ∙ c.requires.none_logged)
 
 pub alloc-first-requires-clause-admitted : goal.alloc-first-requires-clause-admitted
 alloc-first-requires-clause-admitted g c = admitted _ c.args.size c.requires.size (g.met.D.Desk.valid c.args.desk.now)
@@ -31,25 +36,41 @@ pub alloc-second-requires-clause-route : goal.alloc-second-requires-clause-route
 alloc-second-requires-clause-route g c = is_small _ c.args.size 16 c.requires.size
 
 pub alloc-second-requires-clause-can : goal.alloc-second-requires-clause-can
-alloc-second-requires-clause-can g c = may_allocate 3 (omega arith) (budget_left 3 c.alloc-first.ensures.allocates (budget_call c.requires.can)
-    (g.met.D.Desk.spares c.args.desk.now) (g.met.D.Desk.spares c.alloc-first.new.desk))
+alloc-second-requires-clause-can g c = may_allocate 3 (omega arith)
+    (asked_left 3 (omega arith) c.alloc-first.ensures.allocates (budget_call c.requires.can) (g.met.D.Desk.spares c.args.desk.now)
+    (g.met.D.Desk.spares c.alloc-first.new.desk))
 
 pub name_of-requires : goal.name_of-requires
-name_of-requires g c = small_turn c.alloc-first.ensures.allocates (rest_call (budget_call c.requires.can))
+name_of-requires g c = small_turn _ c.alloc-first.ensures.allocates (rest_call (budget_call c.requires.can))
 
 pub free-requires-clause-can : goal.free-requires-clause-can
-free-requires-clause-can g c =
-    rest_call (after_second g (goal.at.free-requires-clause-can g c).After-alloc-second 0 (budget_call c.requires.can))
+free-requires-clause-can g c = rest_call (after_second g (goal.at.free-requires-clause-can g c).After-alloc-second 0 (budget_call c.requires.can))
 
 pub stop-requires-clause-room : goal.stop-requires-clause-room
 stop-requires-clause-room g c =
-    stop_room (log_after c.alloc-second.ensures.allocates ∙ (log_after c.alloc-first.ensures.allocates ∙ c.requires.none_logged)) c.free.ensures.frees
-    (after_second g (goal.at.stop-requires-clause-room g c).After-alloc-second 0 (budget_call c.requires.can))
-    (g.met.D.Desk.spares c.alloc-second.new.desk) (g.met.D.Desk.spares c.free.new.desk)
+    let before = (goal.at.stop-requires-clause-room g c).After-alloc-second in
+    let none = none_logged g before in
+    let one = (freed_one (empty_few none) c.free.ensures.frees).log in
+    let freed = freed_budget (empty_few none) c.free.ensures.frees (after_second g before 0 (budget_call c.requires.can))
+    (g.met.D.Desk.spares c.alloc-second.new.desk) (g.met.D.Desk.spares c.free.new.desk) in
+    omega (arith, one, ap length none, freed.met.room)
 
 pub stop-requires-clause-can : goal.stop-requires-clause-can
 stop-requires-clause-can g c =
-    freed_call c.free.ensures.frees (rest_call (after_second g (goal.at.stop-requires-clause-can g c).After-alloc-second 0 (budget_call c.requires.can)))
+    let before = (goal.at.stop-requires-clause-can g c).After-alloc-second in
+    rest_call (freed_budget (empty_few (none_logged g before)) c.free.ensures.frees (after_second g before 0 (budget_call c.requires.can))
+    (g.met.D.Desk.spares c.alloc-second.new.desk) (g.met.D.Desk.spares c.free.new.desk))
+
+-- what all of them leave
+after_stop : (g : Over) (c : After-stop g) → (cached c.alloc-second.new.self).log ≡ [] → (n : ℕ)
+    → CanCall (g.D.Desk.standing c.alloc-second.new.desk)
+    (HasBudget (g.D.Desk.standing c.alloc-second.new.desk).seat.profile (cached c.alloc-second.new.self) (n + 1) (g.D.Desk.spare_of c.alloc-second.new.desk))
+    → CanCall (g.D.Desk.standing c.stop.new.desk)
+    (HasBudget (g.D.Desk.standing c.stop.new.desk).seat.profile (cached c.stop.new.self) n (g.D.Desk.spare_of c.stop.new.desk))
+after_stop g c none n second =
+    let one = (freed_one (empty_few none) c.free.ensures.frees).log in
+    let freed = freed_budget (empty_few none) c.free.ensures.frees second (g.met.D.Desk.spares c.alloc-second.new.desk) (g.met.D.Desk.spares c.free.new.desk) in
+    stopped_budget (omega (arith, one, ap length none)) c.stop.ensures.stops freed (g.met.D.Desk.spares c.free.new.desk) (g.met.D.Desk.spares c.stop.new.desk)
 
 pub returns-clause-none_logged : goal.returns-clause-none_logged
 returns-clause-none_logged g c = ap (λ (x : Cached). x.log) c.stop.ensures.stops.cache
@@ -59,12 +80,11 @@ returns-clause-seat g c = c.stop.ensures.stops.calls.adds.seat_is
     ∙ (c.free.ensures.frees.calls.adds.seat_is ∙ (c.alloc-second.ensures.allocates.calls.adds.seat_is ∙ c.alloc-first.ensures.allocates.calls.adds.seat_is))
 
 pub returns-clause-rest : goal.returns-clause-rest
-returns-clause-rest g c = stopped_call c.stop.ensures.stops
-    (freed_call c.free.ensures.frees (rest_call (after_second g (goal.at.returns-clause-rest g c).After-alloc-second 0 (budget_call c.requires.can))))
+returns-clause-rest g c =
+    let at = goal.at.returns-clause-rest g c in
+    rest_call (after_stop g at.After-stop (none_logged g at.After-alloc-second) 0 (after_second g at.After-alloc-second 0 (budget_call c.requires.can)))
 
 pub returns-clause-room : goal.returns-clause-room
 returns-clause-room g c n can =
-    let none = log_after c.alloc-second.ensures.allocates ∙ (log_after c.alloc-first.ensures.allocates ∙ c.requires.none_logged) in
-    let second = after_second g (goal.at.returns-clause-room g c).After-alloc-second n (budget_call can) in
-    let freed = freed_budget (empty_few none) c.free.ensures.frees second (g.met.D.Desk.spares c.alloc-second.new.desk) (g.met.D.Desk.spares c.free.new.desk) in
-    call_budget (stopped_budget (one_logged none c.free.ensures.frees) c.stop.ensures.stops freed (g.met.D.Desk.spares c.free.new.desk) (g.met.D.Desk.spares c.stop.new.desk))
+    let at = goal.at.returns-clause-room g c in
+    call_budget (after_stop g at.After-stop (none_logged g at.After-alloc-second) n (after_second g at.After-alloc-second n (budget_call can)))

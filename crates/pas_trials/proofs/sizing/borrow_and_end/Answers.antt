@@ -1,6 +1,6 @@
 use Rattle.std.proofs.Common.{arith}
-use Rattle.pas_trials.proofs.Borrowed.{admitted, budget_call}
-use Rattle.pas_cache.proofs.{Budget.{may_allocate, budget_left}, Routes.is_small}
+use Rattle.pas_trials.proofs.Borrowed.{admitted, budget_call, asked_left}
+use Rattle.pas_cache.proofs.{Budget.may_allocate, Routes.is_small}
 use Rattle.pas_trials.proofs.sizing.borrow_and_end.Goals as goal
 
 pub alloc-block-requires-clause-route : goal.alloc-block-requires-clause-route
@@ -12,12 +12,8 @@ alloc-block-requires-clause-admitted g c = admitted _ 24 (omega arith) (g.met.D.
 pub alloc-block-requires-clause-can : goal.alloc-block-requires-clause-can
 alloc-block-requires-clause-can g c = may_allocate 5 (omega arith) (budget_call c.requires.can)
 
-pub end_by_rooms-requires-clause-can : goal.end_by_rooms-requires-clause-can
-end_by_rooms-requires-clause-can g c =
-    let left = budget_left 3 c.alloc-block.ensures.allocates (budget_call c.requires.can) (g.met.D.Desk.spares c.args.desk.now) (g.met.D.Desk.spares c.alloc-block.new.desk) in
-    record { view = left.view; whole = left.whole; stood = left.stood; met = tt }
-
-pub end_by_rooms-requires-clause-room : goal.end_by_rooms-requires-clause-room
-end_by_rooms-requires-clause-room g c =
-    let left = budget_left 3 c.alloc-block.ensures.allocates (budget_call c.requires.can) (g.met.D.Desk.spares c.args.desk.now) (g.met.D.Desk.spares c.alloc-block.new.desk) in
-    omega (arith, left.met.room)
+pub end_by_rooms-requires : goal.end_by_rooms-requires
+end_by_rooms-requires g c =
+    let left = asked_left 3 (omega arith) c.alloc-block.ensures.allocates (budget_call c.requires.can) (g.met.D.Desk.spares c.args.desk.now)
+    (g.met.D.Desk.spares c.alloc-block.new.desk) in
+    record { can = record { view = left.view; whole = left.whole; stood = left.stood; met = tt }; room = omega (arith, left.met.room) }
