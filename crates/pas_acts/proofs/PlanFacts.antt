@@ -9,7 +9,7 @@ use Rattle.pas_acts.proofs.Common.{AreSpoken, all_any, all_of_chore, all_of_clos
 use Rattle.pas_acts.proofs.{Common.{cost_of_act, records_of_ops}, ActsOfPlan.{ArePlanned, are_planned, acts_fit, of_threads, plan_sums_at_most, own_cost}}
 use Rattle.pas_acts.{proofs.{ActsOfPlan.{its_own, work_costs, free_map}, Naming.{below_all, below_each}}, specs.{Shares.ArePhasesArranged, Tries.tries_of_act}}
 use Rattle.pas_acts.specs.Tries.{tries_of, IsKeptFor, AreKeptFor}
-use Rattle.pas_answers.specs.{Fit.{unbacks_of, kept_cost_of, kept_cost_of_act, kept_costs_of}, Replays.{threads_of, acts_of_plan}, Ways.by_phases}
+use Rattle.pas_answers.specs.{Fit.{unbacks_of, kept_cost_of, kept_cost_of_act, kept_costs_of}, Replays.{threads_of, actors_of, acts_of_plan}, Ways.by_phases}
 use Rattle.pas_trace.{specs.{EveryPlan.{own_records, records_of_what, IsKept, kept_of_work, kept_records}, Plans.bounds_of}, proofs.EveryPlan.threads_among}
 use Rattle.pas_trace.proofs.EveryPlan.{keepers_among}
 use Rattle.pas_steps.specs.Unknown.{unknown_below}
@@ -18,14 +18,14 @@ use Rattle.pas_segregated.specs.declared.slots.Slots.{Slots}
 
 -- ---- the region, which has a place for each keeper
 -- what is said of a plan's operations in its own profile holds in a region of as many actors or more
-module _ (f : Profile) (threads : ℕ) (more : f.threads ≤ threads) where
+module _ (f : Profile) (actors : ℕ) (more : f.threads ≤ actors) where
   abbrev pub region : Profile
-  region = record f { threads = threads }
+  region = record f { threads = actors }
 
   wider_admits : (size align heap : ℕ) → IsAdmitted f size align heap → IsAdmitted region size align heap
   wider_admits size align heap admits = record { within = admits.within; aligned = admits.aligned; of_profile = admits.of_profile }
 
-  -- Operations that are sound in a region are sound in one with more threads.
+  -- Operations that are sound for the threads of a trace are sound for the actors of a region that has as many or more.
   pub wider_sound : (asked : List ℕ) (ops : List Op) → AreSound f asked ops → AreSound region asked ops
   wider_sound asked [] sound = tt
   wider_sound asked (op ∷ ops) sound = let rest = wider_sound (asked_after op.what asked) ops sound.2 in grind (arith, rest, wider_admits)
@@ -48,11 +48,11 @@ plan_valid {text} {plan} is =
     search (arith, threads_among)
 
 -- its threads are actors of its region
-pub plan_threads : (plan : Plan) → threads_of plan ≤ (region_of plan).threads
+pub plan_threads : (plan : Plan) → threads_of plan ≤ actors_of plan
 plan_threads plan = threads_among plan.guard plan.profile.threads
 
 -- a bound for each actor
-pub plan_bounds : {text : List ℕ} {plan : Plan} → IsPlanOf text plan → length (bounds_of plan.bounds) ≡ (region_of plan).threads + 1
+pub plan_bounds : {text : List ℕ} {plan : Plan} → IsPlanOf text plan → length (bounds_of plan.bounds) ≡ actors_of plan + 1
 plan_bounds {text} {plan} is = (every_plan is).count
 
 -- A plan of a text of at most 16 MB has fewer than 2^32 phases.
@@ -76,7 +76,7 @@ plan_above {text} {plan} is = let sound = every_plan is in all_above plan.profil
 pub plan_fit : {text plan : _} → IsPlanOf text plan → (limit : ℕ) → AllBelow limit (phases_of plan) → AreFit (region_of plan) limit [] (acts_of_plan plan)
 plan_fit {text} {plan} is limit below =
     acts_fit (region_of plan) limit (threads_of plan) (keepers_of plan) (phases_of plan) (below_all limit (phases_of plan) below)
-    (wider_sound plan.profile (actors_by plan.guard plan.profile.threads) (plan_threads plan) [] (all_ops (phases_of plan)) (every_plan is).operations)
+    (wider_sound plan.profile (actors_of plan) (plan_threads plan) [] (all_ops (phases_of plan)) (every_plan is).operations)
     (plan_above is)
 
 -- its operations are those of its threads

@@ -9,7 +9,7 @@ use Rattle.pas_trace.specs.{Plans.ops_of, declared.plan.{Op.Op, Plan.Plan}}
 use Rattle.pas_records.specs.{Rests.{AreStamped, AreTrueMarks}, declared.record.Record.Record}
 use Rattle.pas_cache.specs.Caches.{Cached}
 use Rattle.pas_guard.specs.Keepers.{Call, MakesCalls}
-pub use Rattle.pas_trace.specs.Acts.{region_of, threads_of, keepers_of, acts_of_plan}
+pub use Rattle.pas_trace.specs.Acts.{region_of, threads_of, keepers_of, actors_of, acts_of_plan}
 use Rattle.pas_answers.specs.{Answers.{Caches, Books, Progress}, Reaching.Reaches, Phases.AreInPhases, Indexes.GoByIndexes, Stages.{Stage, stages_of}}
 use Rattle.pas_answers.specs.{Stages.GoByStages, Refusals.AreRefusalsTrue, Rests.RestBetween, Ways.{Way, IsOneOrder, arranged}}
 
@@ -55,7 +55,7 @@ pub record IsReplay (way : Way) (plan : Plan) (whole : Whole) (records : List Re
   pub one_order : IsOneOrder way reached.list whole
   pub phases : AreInPhases (region_of plan) (acts_of_plan plan) at_start reached answers whole
   pub stages : GoByStages (region_of plan) (stages_of_plan plan) at_start reached [] whole
-  pub records_are : records ≡ arranged way (region_of plan).threads reached.records
+  pub records_are : records ≡ arranged way (actors_of plan) reached.records
   pub legal : Legal (region_of plan) whole
   pub nothing : (k : ℕ) → HasNothing (part k whole)
   pub keepers : KeepersMakeCalls (region_of plan) (threads_of plan) whole

@@ -5,7 +5,7 @@ use Rattle.pas_records.specs.Rooms.{Records, room_of}
 use Rattle.pas_replay.specs.{Taking.room_for_taker, Sessions.{pass_in, Replay}, declared.kit.PlainKit.PlainKit}
 use Rattle.pas_plain.specs.{Plain.{profile_of, actor_of, room_of_pass, RegionStands, PassStands}, declared.pass.PlainPass.PlainPass}
 use Rattle.pas_large.specs.Doors.{no_ranges}
-use Rattle.pas_answers.specs.{Fit.AllBelow, Names.{block_named, names_held}, Replays.{phases_of, region_of, threads_of, keepers_of, acts_of_plan}}
+use Rattle.pas_answers.specs.{Fit.AllBelow, Names.{block_named, names_held}, Replays.{phases_of, region_of, threads_of, keepers_of, actors_of, acts_of_plan}}
 use Rattle.pas_utility.specs.Outcomes.{places_of}
 use Rattle.pas_acts.specs.{Parts.AreUnused, PlanKeepers.AreBooks}
 
@@ -21,8 +21,8 @@ pub record IsFresh (plan : Plan) (k : ℕ) (slot : Option PlainPass) : Type 0 wh
 pub record IsKitOf (plan : Plan) (kit : PlainKit) : Type 0 where
   pub profile : profile_of kit.region ≡ region_of plan
   pub opening : RegionStands kit.region []
-  pub actors : length kit.actors.passes.items ≡ (region_of plan).threads + 1
-  pub fresh : (k : ℕ) → k < (region_of plan).threads + 1 → IsFresh plan k (pass_in kit.actors.passes.items k)
+  pub actors : length kit.actors.passes.items ≡ actors_of plan + 1
+  pub fresh : (k : ℕ) → k < actors_of plan + 1 → IsFresh plan k (pass_in kit.actors.passes.items k)
   pub unused : AreUnused (threads_of plan) kit.actors.caches.items
   pub books : AreBooks plan kit.actors.books.items
   pub places : places_of kit.actors.outcomes ≡ (region_of plan).pages

@@ -6,7 +6,7 @@ use Rattle.pas_trace.specs.{Plans.bounds_of, EveryPlan.operations_of, declared.p
 use Rattle.pas_utility.specs.Outcomes.{places_of}
 use Rattle.pas_cache.specs.Caches.{cached}
 use Rattle.pas_shared.specs.{Passes.{profile_of, seat_of, view_of, IsPassOf}, declared.{region.SharedRegion.SharedRegion, pass.SharedPass.SharedPass}}
-use Rattle.pas_answers.specs.{Fit.AllBelow, Names.{block_named, names_held}, Replays.{phases_of, region_of, threads_of, keepers_of, empty_cache}}
+use Rattle.pas_answers.specs.{Fit.AllBelow, Names.{block_named, names_held}, Replays.{phases_of, region_of, threads_of, keepers_of, actors_of, empty_cache}}
 use Rattle.pas_guard.specs.{Books.{guards_in, size_of_book}, declared.book.GuardBook.GuardBook}
 use Rattle.pas_acts.specs.{PlanKeepers.guarded_of, NameBooks.{requests_in, room_for}, declared.names.NameBook.NameBook}
 use Rattle.pas_threads.specs.{Pairs.AreGuarded, Sessions.HasPlaces, declared.{keeper.Keeper.Keeper, workers.Worker.Worker, scavenger.Scavenger.Scavenger}}
@@ -110,7 +110,7 @@ pub record IsKitOf (plan : Plan) (kit : SharedKit) : Type 0 where
   pub unused : AreNew kit.region (bounds_of plan.bounds) (first ∷ (others ++ kept))
   pub team : IsTeamOf plan first others kept kit.team
   pub none : kit.passes.items ≡ []
-  pub place : (region_of plan).threads < vec_capacity kit.passes
+  pub place : actors_of plan < vec_capacity kit.passes
 
 -- ---- at the end
 -- the pass in this slot, if there is one

@@ -145,10 +145,14 @@ acts_of threads keepers [] = close_acts threads keepers
 acts_of threads keepers (phase ∷ phases) = phase_acts threads phase ++ acts_from threads keepers 2 phases
 
 -- ---- of a plan
--- the profile that its region is opened for: what is legal there, who sits there, and up to which actor records are arranged, goes by it. In a guarded trace
--- it has twice as many actors
+-- how many actors its region has, beside the scavenger: a thread each, and in a guarded trace a keeper each for these threads
+abbrev pub actors_of : Plan → ℕ
+actors_of plan = actors_by plan.guard plan.profile.threads
+
+-- the profile that its region is opened for: what is legal there, who sits there, and up to which actor records are arranged, goes by it. An actor of the
+-- region is to it what a thread is to the trace
 abbrev pub region_of : Plan → Profile
-region_of plan = record plan.profile { threads = actors_by plan.guard plan.profile.threads }
+region_of plan = record plan.profile { threads = actors_of plan }
 
 -- how many threads it has: they are its region's actors from 1 on, each has a cache, and they make its operations
 abbrev pub threads_of : Plan → ℕ
