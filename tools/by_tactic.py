@@ -3,13 +3,14 @@
 
 A place is the body of a clause, what a `let` with a type or a field of a record has, or an arm, where that takes two
 lines or more; or all clauses of a lemma, where none calls the lemma itself. In its stead `search` is tried, with the
-lemmas that stood there as its list, and for a chain of equations `cc`, too. For each place a copy of the lemma with
-another name is put behind the lemma; the crate is checked once, over the libraries that are built below it, and a copy
-of which nothing is said is proved. The files are put back. With --write what proved is written in, where it saves a line
-and takes no more than --width columns; the crate is checked again, and what fails there is taken back. Imports that
-nothing uses any more go by `rattle check --fix-imports` or `rt tidy`, and the rest by `tools/fold_imports.py`.
+lemmas that stood there as its list. For each place a copy of the lemma with another name is put behind the lemma; the
+crate is checked once, over the libraries that are built below it, and a copy of which nothing is said is proved. The
+files are put back. With --write what proved is written in, the outermost of places in one another, where it saves a
+line and takes no more than --width columns; the crate is checked again, and what fails there is taken back. Imports
+that nothing uses any more go by `rt tidy`, and `tools/fold_imports.py` lays out the rest.
 
-What a reader should see is for who runs it to say: a place whose text has a comment is left as it is.
+A lemma with a comment in its body is left alone: there a reader should see the proof. For the others that is for who
+runs this to say.
 
 Status: 0, or 1 if the crate wasn't proved at the end.
 """
