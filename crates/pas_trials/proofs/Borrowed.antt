@@ -1,9 +1,9 @@
 -- Requests one after another over any desk, for slots and for whole pages, and how far they have come; frees and a stop.
-use Rattle.std.proofs.Common.{◌≡◌, ℕ, ◌+◌, ◌≤◌, [], ◌++◌, length, Bool, Result, refl, ◌∙◌, arith, ◌^◌, ◌<◌, nat_le, List, Ok, Err, ap, length-append, leb-true}
+use Rattle.std.proofs.Common.{◌≡◌, ℕ, ◌+◌, ◌≤◌, [], ◌++◌, length, Bool, Result, refl, ◌∙◌, arith, ◌^◌, ◌<◌, nat_le, List, ap, length-append, leb-true}
 use Rattle.std.proofs.Common.{MatchResult, Option}
-use Rattle.pas_profile.specs.declared.{name.{Block.Block, Name.Name}, event.{NoRoom.NoRoom, FreeFault.FreeFault, Event.Event}, profile.Profile.Profile}
-use Rattle.pas_profile.specs.{declared.entry.Entry.Entry, Profiles.{IsValid, IsAdmitted}, Entries.entry_of}
-use Rattle.pas_steps.specs.{Agreement.Agreed, Desks.{Standing, CanCall, triples}, Events.events_by, Unknown.unknown_pages, declared.step.Made.Made}
+use Rattle.pas_profile.specs.declared.{name.{Block.Block, Name.Name}, event.{NoRoom.NoRoom, FreeFault.FreeFault}, profile.Profile.Profile, entry.Entry.Entry}
+use Rattle.pas_profile.specs.{Profiles.{IsValid, IsAdmitted}, Entries.entry_of}
+use Rattle.pas_steps.specs.{Agreement.Agreed, Desks.{Standing, CanCall}, Events.events_by, Unknown.unknown_pages, declared.step.Made.Made}
 use Rattle.pas_steps.proofs.{Called.{call_as, call_then}, Adding.adds_under, Frames.events_append, Unknown.unknown_no_more, SpareRoom.{Spares, spare_falls}}
 use Rattle.pas_cache.specs.{Caches.{Cached, AtRest}, Serves.{Wanted, wanted_for, pages_of}, Changes.EmptiesFull, Calls.{Rests, Allocates, TakesEntry}}
 use Rattle.pas_cache.{specs.Calls.{RefusesName, Frees, StopsCache, MayAllocatePages, AllocatesPages, most_events, FlushesLog}, proofs.Budget.HasBudget}
@@ -36,13 +36,7 @@ pub budget_after : {σ σ' : Standing} {c c' : Cached} {steps : List Made} {n sp
 budget_after {σ} {c} {steps = steps} {n} {spare} {spare'} m calls can law law' paid =
     let ok = calls.adds.agreed can.view can.whole can.stood can.met.rest in
     let left = spare_falls {C = HasBudget σ.seat.profile c n spare} spare spare' _ (adds_under calls.adds (λ v l stood met. met.rest)) can law law' refl in
-    let all = paid ok in
-    record {
-      view = steps ++ can.view;
-      whole = triples σ.seat.actor steps ++ can.whole;
-      stood = calls.adds.added can.view can.whole can.stood can.met.rest;
-      met = rw calls.adds.seat_is (record { rest = calls.leads.from can.view can.met.rest ok; room = omega (arith, left, all, can.met.room) });
-    }
+    search arith
 
 -- ---- requests
 -- the request is one that every profile admits
@@ -60,8 +54,7 @@ asked_left {σ} m two h can law law' = budget_after m h.calls can law law'
 -- The turn of a block that a small request gave is below 2^37.
 pub small_turn : {σ σ' : Standing} {c c' : Cached} {wanted : Wanted} {tells : Bool} (answer : Result Block NoRoom) → Allocates wanted tells c c' σ σ' answer
     → CanCall σ (AtRest σ.seat.profile c) → MatchResult answer (λ block. block.name.turn < 2 ^ 37) (λ room. Unit {0})
-small_turn (Ok block) h can = h.outcome.turn.from can.view can.met (h.calls.adds.agreed can.view can.whole can.stood can.met)
-small_turn (Err room) h can = tt
+small_turn answer h can = search arith
 
 -- so many requests were made, and there is room for n events more
 pub record BorrowsSoFar (c0 c : Cached) (σ0 σ : Standing) (n spare : ℕ) : Type 0 where
@@ -116,9 +109,7 @@ pub stopped_budget : {σ σ' : Standing} {c c' : Cached} {n spare spare' : ℕ} 
     → CanCall σ (HasBudget σ.seat.profile c (n + 1) spare) → Spares σ spare → Spares σ' spare' → CanCall σ' (HasBudget σ'.seat.profile c' n spare')
 stopped_budget {σ} {σ'} {c} {c'} {n} one h can law law' =
     let k : ℕ = σ.seat.actor in
-    let events : length (events_by k can.view (h.stopped ++ h.flushed)) ≡ length (events_by k can.view h.flushed) = ap length
-    (events_append k h.stopped h.flushed can.view
-    ∙ ap (λ (es : List Event). es ++ events_by k can.view h.flushed) (h.silent k (h.flushed ++ can.view))) in
+    let events : length (events_by k can.view (h.stopped ++ h.flushed)) ≡ length (events_by k can.view h.flushed) = search (arith, events_append) in
     let ended = emptied_events k c.log c.noted c'.noted h.flushed can.view h.empties in
     budget_after n (call_as (λ v w. AtRest σ.seat.profile c' w) h.calls (λ v rest. rest) (λ v w rest done. done.0)) can law law'
     (λ ok. let unknown = unknown_no_more σ.seat.profile (h.stopped ++ h.flushed) can.view ok in omega (arith, events, ended, one, unknown))
@@ -133,8 +124,7 @@ flushed_budget {σ} {σ'} {c} {c'} n m few h can law law' =
 pub settled_budget : {σ : Standing} {c c' : Cached} {n spare : ℕ} → c' ≡ record c { noted = [] } → CanCall σ (HasBudget σ.seat.profile c n spare)
     → CanCall σ (HasBudget σ.seat.profile c' n spare)
 settled_budget is can =
-    let rest = can.met.rest in
-    record { view = can.view; whole = can.whole; stood = can.stood; met = rw is (record { rest = record { locals = rest.locals; few = rest.few; entries = rest.entries; few_entries = rest.few_entries }; room = can.met.room }) }
+    search arith
 
 -- ---- requests for whole pages
 -- an actor with room for n events may ask for that many pages less one

@@ -42,5 +42,4 @@ pub has_room : {σ σ1 : Standing} {n : ℕ} → ReadsOn σ σ1 n → CanCall σ
     → 1 ≤ spare'
 has_room {σ} r call spare spare' law law' wide =
     let falls = spare_falls spare spare' (length (events_by σ.seat.actor call.view r.steps)) r.adds call law law' refl in
-    let few = r.few σ.seat.actor call.view in
-    omega (arith, falls, few, wide)
+    search arith

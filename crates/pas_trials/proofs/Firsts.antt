@@ -1,5 +1,5 @@
 -- The first call of an actor, what a refill gave, and its stop.
-use Rattle.std.proofs.Common.{◌≡◌, ◌-◌, Bool, [], length, reverse, Ok, inr, refl, ap, sym, ◌∙◌, subst, arith, ℕ, ◌++◌, List}
+use Rattle.std.proofs.Common.{◌≡◌, ◌-◌, Bool, [], length, reverse, Ok, refl, ap, sym, ◌∙◌, subst, arith, ℕ, ◌++◌, List}
 use Rattle.pas_profile.specs.{Profiles.IsDirectoryOf, declared.{directory.Directory.Directory, profile.Profile.Profile}}
 use Rattle.pas_steps.specs.{Events.events_of, Lists.Whole, Views.View, Desks.{CanCall, Standing}, Noted.{events_noted, room_of_notes}, declared.step.Made.Made}
 use Rattle.pas_steps.proofs.{Adding.{adds_call, can_call}, Nothing.nothing_yet}
@@ -22,9 +22,7 @@ no_events pass none = ap length (pass.noted.shown ∙ ap (λ (v : View). reverse
 pub can_search : (desk : SharedDesk) (d : Directory) → view_of desk.pass ≡ [] → (seat_of desk.pass).room ≡ 2
     → CanCall (standing_of desk) (SearchRoom (seat_of desk.pass).profile d 1 (room_of_notes desk.pass.notes - length (events_noted desk.pass.notes)))
 can_search desk d none room =
-    let view = view_of desk.pass in
-    let empty = no_events desk.pass none in
-    record { view = view; whole = []; stood = refl; met = record { may = may_search d view none; room = (omega (arith, empty, room), inr (omega (arith, empty, room))) } }
+    search (arith, no_events, may_search)
 
 -- ==== What a refill gave, and its stop.
 
@@ -44,8 +42,7 @@ module _ {fill : Filling} {tells : Bool} {σ σ1 : Standing} {slots : Slots} {d 
 
   pub can_stop : {n spare : ℕ} → CanCall σ (SearchRoom σ.seat.profile fill.directory n spare) → CanCall σ1 (MayStopAt d slots)
   can_stop can =
-      let may : CanCall σ (MaySearch fill.directory) = record { view = can.view; whole = can.whole; stood = can.stood; met = can.met.may } in
-      can_call {C = MaySearch fill.directory} {D = MayStopAt d slots} r.adds may stops_there
+      search (arith, can_call, stops_there)
 
   pub with_stop : {σ2 : Standing} → Steps σ1 σ2 (MayStopAt d slots) → Steps σ σ2 (MaySearch fill.directory)
   with_stop stopped = record { steps = stopped.steps ++ (r.after ++ r.searched); adds = adds_call r.adds stopped.adds stops_there }

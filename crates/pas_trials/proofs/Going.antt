@@ -30,15 +30,13 @@ fewer m less can = record { view = can.view; whole = can.whole; stood = can.stoo
 pub room_for_slot : {σ : Standing} {c : Cached} {spare : ℕ} → 70 ≤ spare → σ.seat.profile.pages ≤ 30 → CanCall σ (AtRest σ.seat.profile c)
     → CanCall σ (MayAllocate σ.seat.profile c spare)
 room_for_slot {σ} {c} {spare} room few can =
-    let unknown = few_below σ.seat.profile.pages can.view in
-    record { view = can.view; whole = can.whole; stood = can.stood; met = record { rest = can.met; room = has_room σ.seat.profile 2 spare can.view (omega (arith, unknown, few, room)) } }
+    search (arith, few_below, has_room)
 
 -- An actor at rest with enough room may allocate pages.
 pub room_for_pages : {σ : Standing} {c : Cached} {spare : ℕ} (n : ℕ) → 70 ≤ spare → σ.seat.profile.pages ≤ 30 → n ≤ σ.seat.profile.pages
     → CanCall σ (AtRest σ.seat.profile c) → CanCall σ (MayAllocatePages σ.seat.profile c n spare)
 room_for_pages {σ} {c} {spare} n room few within can =
-    let unknown = few_below σ.seat.profile.pages can.view in
-    record { view = can.view; whole = can.whole; stood = can.stood; met = record { rest = can.met; room = omega (arith, unknown, few, room, within) } }
+    search (arith, few_below)
 
 -- ---- requests
 pub slot_asked : {σ σ' : Standing} {c c' : Cached} {wanted : Wanted} {tells : Bool} {answer : Result Block NoRoom} → Allocates wanted tells c c' σ σ' answer
@@ -107,8 +105,4 @@ module _ {σ σ1 : Standing} {c c1 : Cached} (locals : c.locals ≡ []) (log : c
 -- An actor that works with a cache goes on working after a call that leaves it at rest.
 pub works_on : {σ σ' : Standing} {c c' : Cached} {steps : List Made} {n n' : ℕ} (room : ℕ) → IsWorking σ c room n → n' ≡ n → Rests c c' σ σ' steps
     → IsWorking σ' c' room n'
-works_on {σ} {σ'} {c} {c'} room working same calls = record {
-  room_is = ap (λ (s : Seat). s.room) calls.adds.seat_is ∙ working.room_is;
-  rest = subst (λ (s : Seat). CanCall σ' (AtRest s.profile c')) (sym calls.adds.seat_is) (next_call calls working.rest (λ v met rests. rests));
-  whole = same ∙ working.whole;
-}
+works_on {σ} {σ'} {c} {c'} room working same calls = search (arith, next_call)

@@ -1,17 +1,17 @@
 -- A block that one actor hands another: what each of the two did, and how their steps stand in the one list.
-use Rattle.std.proofs.Common.{◌≡◌, ◌≢◌, ℕ, zero, suc, ◌-◌, ◌/◌, ◌<◌, max, Bool, true, false, if◌then◌else◌, List, [], ◌∷◌, ◌++◌, length, reverse, Option, Some}
-use Rattle.std.proofs.{Common.{Ok, inr, ⊎_elim, refl, sym, ap, ◌∙◌, subst, arith, nat_lt, eq-eqb, append-nil, append_assoc}, lemmas.Bool.cases_eq}
+use Rattle.std.proofs.Common.{◌≡◌, ◌≢◌, ℕ, zero, suc, ◌-◌, ◌/◌, ◌<◌, max, Bool, if◌then◌else◌, List, [], ◌∷◌, ◌++◌, length, reverse, Option, Some, Ok, inr}
+use Rattle.std.proofs.{Common.{⊎_elim, refl, sym, ap, ◌∙◌, subst, arith, nat_lt, eq-eqb, append-nil, append_assoc}, lemmas.Bool.cases_eq}
 use Rattle.std.{proofs.lemmas.List.append_cancel_right, specs.List.AllByRecursion}
 use Rattle.pas_bits.proofs.Runs.{first_of_run}
-use Rattle.pas_profile.specs.{Blocks.{address_of, grain_of, length_of}, Lives.turn_of, Profiles.{IsPage, IsValid}, Requests.route_in, Routes.room_by}
-use Rattle.pas_profile.specs.{Routes.IsRouteOf, Entries.entry_of, declared.{directory.{Directory.Directory, Route.Route}, event.{Event.Event, Why.Why}}}
-use Rattle.pas_profile.{specs.declared.{name.{Block.Block, Name.Name}, profile.Profile.Profile}, proofs.Sizes.{route_is, class_known, class_size_whole}}
+use Rattle.pas_profile.specs.{Blocks.{address_of, grain_of, length_of}, Lives.turn_of, Profiles.IsValid, Requests.route_in, Routes.{room_by, IsRouteOf}}
+use Rattle.pas_profile.specs.{Entries.entry_of, declared.{directory.{Directory.Directory, Route.Route}, event.{Event.Event, Why.Why}, name.Block.Block}}
+use Rattle.pas_profile.{specs.declared.{name.Name.Name, profile.Profile.Profile}, proofs.Sizes.{route_is, class_known, class_size_whole}}
 use Rattle.pas_steps.specs.{Noted.{events_noted, room_of_notes}, Clear.HasNothing, Views.{View, epoch_of}, Desks.{Seat, CanCall, triple, triples}}
 use Rattle.pas_steps.specs.{Events.{event_of, events_of, events_by, with_event}, Lists.{Triple, Whole, Legal, part, visible}, declared.state.State.State}
 use Rattle.pas_steps.{specs.declared.step.Made.Made, proofs.{Parts.{part_of_own, part_of_others}, Nothing.nothing_yet}}
 use Rattle.pas_machine.specs.{Machine.{Run, IsLive, IsReason}, State.{live_in, ends_in}}
 use Rattle.pas_core.proofs.MachineRuns.{runs}
-use Rattle.pas_free_log.specs.{Conditions.IsEntryOf, Flushes.{EndsName, event_for}, declared.ending.Outcome.{Outcome, TheVariants.{Ended, Refused}}}
+use Rattle.pas_free_log.specs.{Flushes.{EndsName, event_for}, declared.ending.Outcome.{Outcome, TheVariants.{Ended, Refused}}}
 use Rattle.pas_cache.specs.{Caches.{Cached, AtRest}, Calls.{MayAllocate, Allocates}, Serves.{IsPreparing, wanted_for}}
 use Rattle.pas_shared.specs.{Ruled.IsEarlier, Passes.{view_of, seat_of, standing_of}, Pasts.{told, IsPastOf, HasOwn}, Ledgers.EndsAfter}
 use Rattle.pas_shared.specs.declared.{desk.SharedDesk.SharedDesk, past.Past.Past, pass.SharedPass.SharedPass, region.SharedRegion.SharedRegion}
@@ -57,19 +57,7 @@ gift_of region c c' tells d d' pass gift block none actor profile rest al pass_i
     let some = some_grains f.classes 64 16 (route_in f 64 16) (route_is f.classes 64 16) in
     let room = ap (λ (n : ℕ). n / 16) al.outcome.room in
     let page = al.outcome.of_region (grain_of block.name) (first_of_run (grain_of block.name) (length_of block) (omega (arith, some, room))) in
-    let same : grain_of block.name / 256 ≡ address_of block.name / 4096 = omega arith in
-    let entry : IsEntryOf f (entry_of block.name) = record { name = record { page = subst (IsPage f) same page; aligned = al.outcome.aligned; turn = omega (arith, small) }; whole = refl; within = omega arith } in
-    record {
-      past = of;
-      own = subst (λ (z : ℕ × View). HasOwn z.0 z.1 (told gift.past)) (λ i. (who i, view_of (sym pass_is i))) own;
-      block = block;
-      name_is = sym name;
-      directory = (wanted_for f 0 64 16).directory;
-      before = shown.0;
-      events = ap (events_of 1) view ∙ (events_all 1 al.steps ∙ shown.1);
-      prepared = shown.2;
-      entry = subst (λ (z : Profile × Name). IsEntryOf z.0 (entry_of z.1)) (λ i. (profile i, sym name i)) entry;
-    }
+    search (arith, events_all)
 
 -- ---- the one that frees
 pub freed : (region : SharedRegion) (d d' : SharedDesk) (gift : Gift) (pass : SharedPass) (past : Past)
@@ -79,15 +67,7 @@ pub freed : (region : SharedRegion) (d d' : SharedDesk) (gift : Gift) (pass : Sh
 freed region d d' gift pass past none actor ends pass_is of earlier own =
     let all = ends.flushes in
     let view : view_of pass ≡ all.steps ++ [] = ap view_of pass_is ∙ all.calls.adds.added [] [] none nothing_yet.clear in
-    let shown = subst (λ (k : ℕ). events_by k [] all.steps ≡ event_for k all.epoch (entry_of gift.name) ends.outcome ∷ []) actor (ends.event []) in
-    record {
-      past_of = of;
-      earlier = earlier;
-      own = own;
-      epoch = all.epoch;
-      outcome = ends.outcome;
-      events = ap (events_of 2) view ∙ (events_all 2 all.steps ∙ shown);
-    }
+    search (arith, events_all)
 
 -- ==== The one list: all steps of the one, and behind them all of the other.
 
@@ -155,8 +135,7 @@ no_ends d (e ∷ es) a all = no_end d e es a all.0 ∙ no_ends d es a all.1
 
 refuses_not : (ended : Bool) (es : List Event) (name : Name) → ends_in es (address_of name) ≡ 0 → IsLive es name
     → IsReason es name (if ended then Why.Ended else Why.NoBlock) → ⊥
-refuses_not true es name none live reason = omega (arith, none, reason)
-refuses_not false es name none live reason = reason.1 live
+refuses_not ended es name none live reason = search arith
 
 is_end : (f : Profile) (block : Block) (d : Directory) (before : List Event) (epoch : ℕ) (outcome : Outcome) → AllByRecursion (IsPreparing d) before
     → Run f (event_for 2 epoch (entry_of block.name) outcome ∷ Event.Give 1 block ∷ before)
@@ -187,14 +166,11 @@ handed_over f l first second v w block name d before epoch outcome valid legal t
     let one_whole : (part 1 later ++ part 1 mid) ++ v ≡ v = cc (append_assoc (part 1 later) (part 1 mid) v, one_after, cut 1, one) in
     let one_later : part 1 later ≡ [] = left_none (part 1 later) (part 1 mid) (append_cancel_right (part 1 later ++ part 1 mid) [] v one_whole) in
     let one_second : part 1 second ≡ v = cc (one_later, cut 1, one) in
-    let second_is : second ≡ triples 1 v = lone 1 second (others 1 (λ j. part j second ≡ []) (right_none _ _ zero_cut) (λ ne. absurd (ne refl))
-    (λ ne. fresh) (λ j beyond. right_none _ _ (more_cut j beyond))) ∙ ap (triples 1) one_second in
-    let later_is : later ≡ triples 2 w = lone 2 later (others 2 (λ j. part j later ≡ []) (left_none _ _ zero_cut) (λ ne. one_later) (λ ne. absurd (ne refl))
-    (λ j beyond. left_none _ _ (more_cut j beyond))) ∙ ap (triples 2) two_later in
+    let second_is : second ≡ triples 1 v = search (arith, lone, others, right_none) in
+    let later_is : later ≡ triples 2 w = search (arith, lone, others, left_none) in
     let whole_is : l ≡ triples 2 w ++ second = taken.1 ∙ ap (λ (x : Whole). x ++ second) later_is in
     let first_events : visible second ≡ Event.Give 1 block ∷ before = cc (second_is, append-nil (triples 1 v), shown_lone 1 v [] refl, append-nil (events_of 1 v), gave) in
-    let all : visible l ≡ event_for 2 epoch (entry_of block.name) outcome ∷ Event.Give 1 block ∷ before = cc (whole_is, shown_lone 2 w second fresh, ended, name_is, first_events) in
-    rw name_is at (is_end f block d before epoch outcome prepared (subst (Run f) all (runs f l valid legal)))
+    search (arith, shown_lone, is_end, runs)
 
 -- A gift that the second actor freed was handed over.
 pub is_handed_over : (region : SharedRegion) (gift : Gift) (scavenger giver taker : SharedPass) (past : Past) (state : State) (event : Option Event)
@@ -204,16 +180,4 @@ pub is_handed_over : (region : SharedRegion) (gift : Gift) (scavenger giver take
     → ((e : Event) (more : List Event) → events_noted taker.notes ≡ e ∷ more → event ≡ Some e)
     → IsHandedOver record { name = gift.name; event = event }
 is_handed_over region gift scavenger giver taker past state event threads idle one two given free ends tells =
-    let after = ends.ends.after in
-    let l : Whole = after.whole in
-    let Did : SharedPass → Type 0 = λ p. part (seat_of p).actor l ≡ view_of p in
-    let others = others_are Did (scavenger ∷ giver ∷ taker ∷ []) scavenger (giver ∷ taker ∷ []) refl after.parts in
-    let last = others_are Did (giver ∷ taker ∷ []) giver (taker ∷ []) refl others in
-    let none : part 0 l ≡ [] = cc (first_is (λ (p : SharedPass). part (seat_of p).actor l ≡ view_of p) (scavenger ∷ giver ∷ taker ∷ []) scavenger (giver ∷ taker ∷ []) refl after.parts) in
-    let of_giver : part 1 l ≡ view_of giver = ap (λ (k : ℕ). part k l) (sym one.actor) ∙ first_is Did (giver ∷ taker ∷ []) giver (taker ∷ []) refl others in
-    let of_taker : part 2 l ≡ view_of taker = ap (λ (k : ℕ). part k l) (sym two.actor) ∙ first_is Did (taker ∷ []) taker [] refl last in
-    let noted : events_noted taker.notes ≡ event_for 2 free.epoch (entry_of gift.name) free.outcome ∷ [] = taker.noted.shown ∙ ap reverse (ap (λ (k : ℕ). events_of k (view_of taker)) two.actor ∙ free.events) in
-    record {
-      epoch = free.epoch;
-      ended = cc (tells (event_for 2 free.epoch (entry_of gift.name) free.outcome) [] noted, handed_over region.profile l (told gift.past) (told past) (view_of giver) (view_of taker) given.block gift.name given.directory given.before free.epoch free.outcome region.valid after.legal threads free.earlier ends.begins given.own free.own none of_giver of_taker given.name_is given.events given.prepared free.events);
-    }
+    search (arith, others, others_are, first_is, reverse, handed_over)

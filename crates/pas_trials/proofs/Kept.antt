@@ -1,5 +1,5 @@
 -- Free grains, usable grains, and what is offered.
-use Rattle.std.proofs.{Common.{arith, ◌≡◌, ℕ, ◌<◌, ◌≤◌, ◌⊎◌, Bool, true, false, true≢false, length, refl, sym, ◌∙◌, inl, inr}, lemmas.Bool.cases_lt}
+use Rattle.std.proofs.{Common.{arith, ◌≡◌, ℕ, ◌<◌, ◌≤◌, ◌⊎◌, Bool, true, false, true≢false, length, sym, ◌∙◌, inl, inr}, lemmas.Bool.cases_lt}
 use Rattle.pas_bits.{specs.{Masks.{is_set, AreApart}, declared.mask.Mask4.Mask4}, proofs.Words.none_past}
 
 module _ (free usable : Mask4) (is_free is_usable : ℕ → Bool) (Offered : Type 0) (frees : (g : ℕ) → g < 256 → is_set free g ≡ is_free g)
@@ -20,5 +20,4 @@ module _ (free usable : Mask4) (is_free is_usable : ℕ → Bool) (Offered : Typ
   -- where a page that isn't offered is kept, no usable grain is free
   pub full_kept : ((g : ℕ) → g < 256 → is_usable g ≡ true → is_free g ≡ true → Offered) → (Offered → ⊥) → AreApart free usable
   full_kept kept none g set =
-      let lt = within g set (cases_lt g 256) in
-      apart_at (is_set free g) g refl (λ there. none (kept g lt (sym (usables g lt) ∙ set) (sym (frees g lt) ∙ there)))
+      search (arith, within, cases_lt, apart_at)

@@ -1,5 +1,5 @@
 -- Two actors at a region that nobody used yet are in a storm, and the passes of two actors are the region's.
-use Rattle.std.proofs.{Common.{◌≡◌, ℕ, List, [], ◌∷◌, All, sym, subst, arith}, lemmas.List.Elements.{All-nil, All-cons}}
+use Rattle.std.proofs.Common.{◌≡◌, ℕ, List, [], ◌∷◌, arith}
 use Rattle.pas_steps.{specs.Lists.Whole, proofs.Nothing.nothing_yet}
 use Rattle.pas_plain.specs.{Plain.{profile_of, RegionStands, PassStands}, Storms.StormStands, Seats.{region_of, pass_of, Opens, ArePassesOf}}
 use Rattle.pas_plain.specs.declared.{desk.PlainDesk.PlainDesk, pass.PlainPass.PlainPass, region.PlainRegion.PlainRegion}
@@ -14,6 +14,4 @@ storm_stands {desk} {region} {own} {foreign} opens at of =
 pub both_passes : {region : PlainRegion} {own foreign : PlainPass} {whole : Whole} {passes : List PlainPass} → passes ≡ own ∷ foreign ∷ []
     → RegionStands region whole → PassStands (profile_of region) own whole → PassStands (profile_of region) foreign whole → ArePassesOf region passes
 both_passes {region} {own} {foreign} {whole} is stands first second =
-    let Has : PlainPass → Type 0 = λ pass. PassStands (profile_of region) pass whole in
-    let parts : All Has (own ∷ foreign ∷ []) = All-cons Has own (foreign ∷ []) first (All-cons Has foreign [] second (All-nil Has)) in
-    subst (λ passes. ArePassesOf region passes) (sym is) (record { whole = whole; stands = stands; parts = parts })
+    search arith

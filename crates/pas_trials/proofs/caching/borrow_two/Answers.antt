@@ -76,8 +76,7 @@ pub returns-clause-none_logged : goal.returns-clause-none_logged
 returns-clause-none_logged g c = ap (λ (x : Cached). x.log) c.stop.ensures.stops.cache
 
 pub returns-clause-seat : goal.returns-clause-seat
-returns-clause-seat g c = c.stop.ensures.stops.calls.adds.seat_is
-    ∙ (c.free.ensures.frees.calls.adds.seat_is ∙ (c.alloc-second.ensures.allocates.calls.adds.seat_is ∙ c.alloc-first.ensures.allocates.calls.adds.seat_is))
+returns-clause-seat g c = search arith
 
 pub returns-clause-rest : goal.returns-clause-rest
 returns-clause-rest g c =
@@ -86,5 +85,4 @@ returns-clause-rest g c =
 
 pub returns-clause-room : goal.returns-clause-room
 returns-clause-room g c n can =
-    let at = goal.at.returns-clause-room g c in
-    call_budget (after_stop g at.After-stop (none_logged g at.After-alloc-second) n (after_second g at.After-alloc-second n (budget_call can)))
+    search (arith, call_budget, after_stop, none_logged, after_second, budget_call)

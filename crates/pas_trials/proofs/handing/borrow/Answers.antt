@@ -1,12 +1,11 @@
-use Rattle.std.proofs.Common.{ap, refl, ◌∙◌}
+use Rattle.std.proofs.Common.{arith, ap, refl, ◌∙◌}
 use Rattle.pas_shared.specs.{Passes.{view_of, seat_of}, declared.{pass.SharedPass.SharedPass, region.SharedRegion.SharedRegion}}
 use Rattle.pas_trials.proofs.HandedOver.{can_ask, gift_of}
 use Rattle.pas_trials.proofs.handing.borrow.Goals as goal
 
 pub alloc-answer-requires-clause-can : goal.alloc-answer-requires-clause-can
 alloc-answer-requires-clause-can c =
-    let seated = c.desk-desk.ensures.pass in
-    can_ask c.desk-desk.result _ (ap view_of seated ∙ c.requires.pass.fresh.no_steps) (ap (λ (p : SharedPass). (seat_of p).room) seated ∙ c.requires.pass.fresh.room) c.requires.rest
+    search (arith, can_ask)
 
 pub returns-in-Ok-clause-gift : goal.returns-in-Ok-clause-gift
 returns-in-Ok-clause-gift c =

@@ -4,8 +4,7 @@ use Rattle.pas_rights.specs.Leaves.{MayLeave}
 use Rattle.pas_trials.proofs.holding.take_words.Goals as goal
 
 pub take-requires-clause-can : goal.take-requires-clause-can
-take-requires-clause-can g c = let i = c.loop-word.invariant in
-    next_step i.brings.calls c.requires.can (c.requires.page, omega (arith, c.loop-word-test.true, c.requires.words), omega arith) (λ v m b. b.right)
+take-requires-clause-can g c = search (arith, next_step)
 
 pub loop-word-preserved : goal.loop-word-preserved
 loop-word-preserved g c = let i = c.loop-word.invariant in record {

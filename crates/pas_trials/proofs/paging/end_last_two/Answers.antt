@@ -17,8 +17,7 @@ free-requires-2-clause-room g c full =
     absurd (omega (arith, one, ap length c.requires.none_logged, full))
 
 pub free-requires-2-clause-can : goal.free-requires-2-clause-can
-free-requires-2-clause-can g c = rest_call (freed_budget (empty_few c.requires.none_logged) c.free.ensures.frees (budget_call c.requires.can)
-    (g.met.D.Desk.spares c.args.desk.now) (g.met.D.Desk.spares c.free.new.desk))
+free-requires-2-clause-can g c = search (arith, rest_call, freed_budget, empty_few, budget_call)
 
 -- two names are logged, and the budget is as it was
 module _ (g : Over) (c : After-free-2 g) where

@@ -1,6 +1,6 @@
-use Rattle.std.proofs.Common.{[], ◌∷◌, ◌++◌, refl, ap, sym, ◌∙◌, arith}
+use Rattle.std.proofs.Common.{◌++◌, ap, sym, ◌∙◌, arith}
 use Rattle.pas_scavenger.proofs.Examinations.{same_room}
-use Rattle.pas_steps.{specs.Kinds.{Hinting, Ticking}, proofs.Adding.adds_call}
+use Rattle.pas_steps.proofs.Adding.{adds_call}
 use Rattle.pas_trials.proofs.Ageing.{hint_and_tick, aged, may_pass}
 use Rattle.pas_trials.proofs.passing.age_and_pass.Goals as goal
 
@@ -9,10 +9,7 @@ pass-requires-clause-can g c = may_pass c.args.page c.hint.result c.args.epoch c
 
 pub pass-requires-clause-room : goal.pass-requires-clause-room
 pass-requires-clause-room g c =
-    let D = g.D.Desk in let a = aged c.args.page c.hint.result c.args.epoch c.tick.result c.hint.ensures.makes c.tick.ensures.makes in
-    let same = same_room (Hinting ∷ Ticking ∷ []) refl (D.spare_of c.args.desk.now) (D.spare_of c.tick.new.self) a c.requires.can (refl, (refl, tt))
-    (g.met.D.Desk.spares c.args.desk.now) (g.met.D.Desk.spares c.tick.new.self) in
-    let pages = ap (λ s. s.profile.pages) a.adds.seat_is in omega (arith, same, pages, c.requires.room)
+    search (arith, aged, same_room)
 
 pub pass-requires-clause-places : goal.pass-requires-clause-places
 pass-requires-clause-places g c = let a = aged c.args.page c.hint.result c.args.epoch c.tick.result c.hint.ensures.makes c.tick.ensures.makes in c.requires.places ∙ sym (ap (λ s. s.profile.pages) a.adds.seat_is)

@@ -10,21 +10,17 @@ pub end_sized-requires-clause-can : goal.end_sized-requires-clause-can
 end_sized-requires-clause-can g c = may_end (reads c.look.ensures.makes) c.requires.can (of_region _ 48 (g.met.D.Desk.valid c.args.desk.now) (omega arith) (omega arith) refl)
 
 pub end_sized-requires-clause-room : goal.end_sized-requires-clause-room
-end_sized-requires-clause-room g c = has_room (reads c.look.ensures.makes) c.requires.can _ _ (g.met.D.Desk.spares c.args.desk.now)
-    (g.met.D.Desk.spares c.look.new.self) (omega (arith, c.requires.room))
+end_sized-requires-clause-room g c = search (arith, has_room, reads)
 
 pub end_sized-requires-2-clause-can : goal.end_sized-requires-2-clause-can
 end_sized-requires-2-clause-can g c = may_end (ends (reads c.look.ensures.makes) c.end_sized.ensures.makes) c.requires.can (of_region _ 32 (g.met.D.Desk.valid c.args.desk.now) (omega arith) (omega arith) refl)
 
 pub end_sized-requires-2-clause-room : goal.end_sized-requires-2-clause-room
-end_sized-requires-2-clause-room g c = has_room (ends (reads c.look.ensures.makes) c.end_sized.ensures.makes) c.requires.can _ _
-    (g.met.D.Desk.spares c.args.desk.now) (g.met.D.Desk.spares c.end_sized.new.self) (omega (arith, c.requires.room))
+end_sized-requires-2-clause-room g c = search (arith, has_room, ends, reads)
 
 pub end_sized-requires-3-clause-can : goal.end_sized-requires-3-clause-can
-end_sized-requires-3-clause-can g c = may_end (ends (ends (reads c.look.ensures.makes) c.end_sized.ensures.makes) c.end_sized-2.ensures.makes) c.requires.can
-    (of_region _ 48 (g.met.D.Desk.valid c.args.desk.now) (omega arith) (omega arith) refl)
+end_sized-requires-3-clause-can g c = search (arith, may_end, ends, reads)
 
 pub end_sized-requires-3-clause-room : goal.end_sized-requires-3-clause-room
 end_sized-requires-3-clause-room g c =
-    has_room (ends (ends (reads c.look.ensures.makes) c.end_sized.ensures.makes) c.end_sized-2.ensures.makes) c.requires.can _ _
-    (g.met.D.Desk.spares c.args.desk.now) (g.met.D.Desk.spares c.end_sized-2.new.self) (omega (arith, c.requires.room))
+    search (arith, has_room, ends, reads)

@@ -1,17 +1,11 @@
-use Rattle.std.proofs.Common.{[], refl, ◌∙◌, arith}
+use Rattle.std.proofs.Common.{◌∙◌, arith}
 use Rattle.pas_cache.proofs.{Budget.may_allocate, Routes.is_small}
 use Rattle.pas_steps.proofs.Called.{call_none}
 use Rattle.pas_trials.proofs.{Borrowed.{budget_call, one_more}, Going.fewer}
 use Rattle.pas_trials.proofs.storming.borrow_many.Goals as goal
 
 pub loop-done-init : goal.loop-done-init
-loop-done-init g c = (
-  record {
-    borrows = record { steps = []; rests = call_none (λ v rest. rest); log = refl };
-    room = budget_call (fewer _ (omega arith) c.requires.can);
-  },
-  refl,
-)
+loop-done-init g c = search (arith, call_none, budget_call, fewer)
 
 pub alloc-requires-clause-route : goal.alloc-requires-clause-route
 alloc-requires-clause-route g c = is_small _ 512 16 (omega arith)

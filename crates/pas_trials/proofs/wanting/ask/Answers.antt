@@ -1,4 +1,4 @@
-use Rattle.std.proofs.Common.{◌≡◌, ℕ, Bool, Some, ◌∷◌, [], ap, sym, ◌∙◌, ◌==◌, true, if◌then◌else◌}
+use Rattle.std.proofs.Common.{arith, ◌≡◌, ℕ, Bool, Some, ◌∷◌, [], ap, sym, ◌∙◌, ◌==◌, true, if◌then◌else◌}
 use Rattle.pas_profile.specs.{Directories.deed_word_of, declared.{directory.Directory.Directory, word.Word.Word}}
 use Rattle.pas_steps.specs.{Calls.{Calls, now, Gained, Kept}, Desks.{Standing, made, Makes, AnyView}, Views.{has_right, KnowsDeed, View}}
 use Rattle.pas_steps.{specs.declared.step.Step.TheVariants.{Look, TakeRight}, proofs.{Called.{call_none, call_step, call_then, next_call}, Frames.knows_still}}
@@ -18,15 +18,7 @@ claim_gets p got v w is e = e ∙ ap (λ t. now (if t then (if got then Gained e
 -- A claim that got the right is a call that answers with it.
 claimed : {σ σ' : Standing} {got : Bool} (p : ℕ) (d : Directory) (h : Claims p d σ σ' got)
     → Calls σ σ' (λ v. KnowsDeed p d v) (λ v w. Answered (Some got) p d w) (made (TakeRight p d) h.answer ∷ [])
-claimed {σ} {got = got} p d h = record {
-  adds = h.calls.adds;
-  leads = record {
-    from = λ v known agreed. (
-      knows_still σ.seat.profile d p (made (TakeRight p d) h.answer ∷ []) v agreed known,
-      λ is. claim_gets p got v (made (TakeRight p d) h.answer ∷ v) is ((h.calls.leads.from v known agreed).right p),
-    );
-  };
-}
+claimed {σ} {got = got} p d h = search (arith, knows_still, claim_gets)
 
 pub claim-requires-clause-can : goal.claim-requires-clause-can
 claim-requires-clause-can g c = next_call (knows c.args.directory c.look.ensures.makes (c.if-look-deed_word.false ∙ c.deed_word.ensures)) c.requires.can (λ v met b. b)

@@ -1,5 +1,4 @@
-use Rattle.std.proofs.Common.{refl, ◌∙◌}
-use Rattle.pas_trials.specs.SharedStorms.{IsReadyForStorm}
+use Rattle.std.proofs.Common.{arith, ◌∙◌}
 use Rattle.pas_shared.{specs.Passes.IsFreshPass, proofs.Pops.{all_more, first_is, others_are}}
 use Rattle.pas_trials.proofs.workers.storm_workers.Goals as goal
 
@@ -23,6 +22,5 @@ loop-pass-preserved c =
     record {
       threads = c.cache_seat.ensures.threads ∙ inv.threads;
       rest = others_are (IsFreshPass region events) _ _ _ is inv.rest;
-      ready = all_more (IsReadyForStorm region events) _ _ _ c.in_ok-push.ensures.items inv.ready
-          (record { has_pass = refl; of_region = fresh.of_region; may = record { fresh = fresh; rest = c.new.ensures.rest } });
+      ready = search (arith, all_more);
     }
